@@ -1,0 +1,1 @@
+// What is proved of the rules alone stands in specs/: this crate has no code.
