@@ -13,7 +13,7 @@ use Rattle.rules.specs.declared.Answer.the-variants.{Accepted, Refused}
 use Rattle.rules.specs.declared.Packed.{Packed}
 use Rattle.rules.specs.declared.Packed.the-variants as packing
 use Rattle.rules.specs.declared.Refusal.the-variants.{Run}
-use Rattle.rules.specs.Answers.{got, bad, pick, bind, answered, times, each}
+use Rattle.rules.specs.Answers.{got, bad, pick, bind, times, each}
 use Rattle.rules.specs.Bits.{digits, num, bitsOf, bytesOf, padded, within, placeOf}
 use Rattle.rules.specs.Words.{modZ, signed, wrap, sign, unfolded, folded, log2}
 use Rattle.rules.specs.Stream.{i16Output, accepted}
@@ -22,7 +22,7 @@ use Rattle.rules.specs.Symbol.{ones, rest, symbol}
 use Rattle.rules.specs.Rice.{symbolK, runK, runM, historyAfter, runAt, afterValue, sample, rice}
 use Rattle.rules.specs.Prediction.{weighed, guess, errorLeft, adapted, meanOf, window, forecast, next, coefsAfter, predicted, summed, summedFrom}
 use Rattle.rules.specs.Mix.{share, rightOf, leftOf, midOf, onPair, unmixed, mixed}
-use Rattle.rules.specs.Element.{paramsOk, mixOk, allOf, numbers, extended, withExtra, sampleNumber, params, extraBits, channelOf, channel, compressed, uncompressed, body, audioElement}
+use Rattle.rules.specs.Element.{paramsOk, mixOk, allOf, numbers, extended, withExtra, sampleNumber, params, extraBits, channelOf, assembled, rawSound, channel, compressed, uncompressed, body, audioElement}
 use Rattle.rules.specs.Packet.{agrees, followed, skipBytes, dataCount, aligned, dataElement, fillElement, soundElement, endElement, tagged, turn, onward, run, packet}
 use Rattle.rules.specs.Reader.{roomy, decoded, answerOf, written, outputAfter, scratchAfter}
 use Rattle.rules.specs.Writer.{restBits, symbolBits, zeros, riceCode, residual, residuals, channelInRange, mixInRange, inRange, passageFits, joined, paramBits, countBits, headBits, channelCode, channelCodes, packetBits, packetBytes, packed, bytesAfter}
@@ -74,9 +74,9 @@ bench : (map runK (0 ∷ 1 ∷ 31 ∷ 32 ∷ 47 ∷ 48 ∷ 111 ∷ 112 ∷ 127 �
 unfolding stream settings packetOf heard told
     runK symbolK log2 leadingZeros mixed onPair pairs midOf share wrap signed modZ
     decoded accepted roomy answerOf outputAfter written laid interleaved heads tails every upTo
-    digits num bitsOf bytesOf padded within bind answered times each
+    digits num bitsOf bytesOf padded within bind times each
     packet run turn tagged soundElement endElement onward agrees followed
-    audioElement sampleNumber body uncompressed compressed params paramsOk mixOk allOf extraBits numbers channel channelOf
+    audioElement sampleNumber body uncompressed compressed params paramsOk mixOk allOf extraBits numbers channel channelOf assembled rawSound
     withExtra extended unmixed symbol ones rest rice sample afterValue historyAfter runAt runM unfolded folded sign
     predicted next forecast guess weighed meanOf window coefsAfter adapted errorLeft summed summedFrom
     packed inRange channelInRange mixInRange passageFits bytesAfter packetBytes packetBits headBits countBits paramBits joined

@@ -66,6 +66,28 @@ extended shift x extra = wrap 32 (x *ℤ pos (2 ^ shift) +ℤ pos extra)
 unfoldable pub withExtra : ℕ → ℕ → List ℕ → List (List ℤ) → List (List ℤ)
 withExtra channels shift extra chans = pick (eqb shift 0) chans (pairs (pairs (extended shift)) chans (lanes channels extra))
 
+-- shift x samples x channels extra bits, passed over at once
+unfoldable pub extraBits : List ℕ → ℕ → ℕ → Read (List ℕ)
+extraBits bits count shift p = within bits (shift * count) (numbers count shift (drop p bits)) p
+
+-- the samples of Rice data: in mode 15 they are summed first
+unfoldable pub channelOf : ℕ → Params → RiceData → Channel
+channelOf b c d =
+    let a = predicted b (c .quant) [] (c .coefs) (pick (eqb (c .mode) 15) (summed b (d .residuals)) (d .residuals)) in
+    record { values = a .values; track = record { histories = d .histories; coefs = a .coefs } }
+
+-- unmixed, then the extra bits
+unfoldable pub assembled : ℕ → ℕ → ℕ → ℕ → ℤ → List ℕ → List Channel → Sound
+assembled channels shift n mixBits mixRes extra read = record {
+  samples = n;
+  chans = withExtra channels shift extra (unmixed mixBits mixRes (map (λ c. c .values) read));
+  tracks = map (λ c. c .track) read;
+}
+
+-- depth-bit samples, interleaved
+unfoldable pub rawSound : ℕ → ℕ → ℕ → List ℕ → Sound
+rawSound channels depth n raw = record { samples = n; chans = lanes channels (map (signed depth) raw); tracks = [] }
+
 module _ (bits : List ℕ) (s : StreamInfo) where
   -- if partial, count 32, and 8 right after it; else the frame length
   unfoldable pub sampleNumber : ℕ → Read ℕ
@@ -85,16 +107,6 @@ module _ (bits : List ℕ) (s : StreamInfo) where
     newestFirst ← times order (field bits 16)
     give (record { mode = mode; quant = quant; factor = factor s pbFactor; coefs = reverse (map (signed 16) newestFirst) })
 
-  -- shift x samples x channels extra bits, passed over at once
-  unfoldable pub extraBits : ℕ → ℕ → Read (List ℕ)
-  extraBits count shift p = within bits (shift * count) (numbers count shift (drop p bits)) p
-
-  -- the samples of Rice data: in mode 15 they are summed first
-  unfoldable pub channelOf : ℕ → Params → RiceData → Channel
-  channelOf b c d =
-      let a = predicted b (c .quant) [] (c .coefs) (pick (eqb (c .mode) 15) (summed b (d .residuals)) (d .residuals)) in
-      record { values = a .values; track = record { histories = d .histories; coefs = a .coefs } }
-
   -- a channel's Rice data, its history from mb; mode is judged after it
   unfoldable pub channel : ℕ → ℕ → Params → Read Channel
   channel n b c = do
@@ -111,20 +123,16 @@ module _ (bits : List ℕ) (s : StreamInfo) where
     mixRes ← field bits 8
     cs ← times channels params
     check (allOf paramsOk cs && mixOk channels mixBits (signed 8 mixRes)) Parameters
-    extra ← extraBits (n * channels) shift
+    extra ← extraBits bits (n * channels) shift
     read ← each cs (channel n (channelBits s shift channels))
-    give (record {
-      samples = n;
-      chans = withExtra channels shift extra (unmixed mixBits (signed 8 mixRes) (map (λ c. c .values) read));
-      tracks = map (λ c. c .track) read;
-    })
+    give (assembled channels shift n mixBits (signed 8 mixRes) extra read)
 
-  -- depth-bit samples, interleaved; 16 before any of them
+  -- 16 before any sample
   unfoldable pub uncompressed : ℕ → ℕ → ℕ → Read Sound
   uncompressed channels code n = do
     check (eqb code 0) ShiftedRaw
     raw ← times (n * channels) (field bits (s .«bit_depth»))
-    give (record { samples = n; chans = lanes channels (map (signed (s .«bit_depth»)) raw); tracks = [] })
+    give (rawSound channels (s .«bit_depth») n raw)
 
   -- compressed, or not
   unfoldable pub body : ℕ → ℕ → ℕ → ℕ → Read Sound

@@ -8,7 +8,7 @@ use Rattle.rules.specs.declared.StreamInfo.{StreamInfo}
 use Rattle.rules.specs.declared.Samples.{Samples}
 use Rattle.rules.specs.declared.Samples.the-variants.{Open, Known}
 use Rattle.rules.specs.declared.Refusal.the-variants.{Short, ManyChannels, Unsupported, Disagree, FewChannels, Fill}
-use Rattle.rules.specs.Answers.{Ans, bind, answered, pick, Read, _>>=_, _>>_, give, refuse, check}
+use Rattle.rules.specs.Answers.{Ans, bind, pick, Read, _>>=_, _>>_, give, refuse, check}
 use Rattle.rules.specs.Bits.{field, skip, skipToByte}
 use Rattle.rules.specs.Element.{Sound, audioElement}
 
@@ -31,6 +31,14 @@ numberKnown (Known n) = n
 -- the channels of an element before those that follow
 unfoldable pub followed : Sound → Sound → Sound
 followed first rest = record { samples = rest .samples; chans = first .chans ++ rest .chans; tracks = first .tracks ++ rest .tracks }
+
+-- what follows an element; what follows END is ignored
+unfoldable pub onward : ℕ → Samples → (ℕ → Samples → Read Sound) → Turn → Read Sound
+onward so-far m go (audio sound) = do
+  rest ← go (so-far + length (sound .chans)) (Known (sound .samples))
+  give (followed sound rest)
+onward so-far m go passed = go so-far m
+onward so-far m go (end n) = give (record { samples = n; chans = []; tracks = [] })
 
 module _ (bits : List ℕ) where
   -- those bytes are skipped
@@ -99,12 +107,6 @@ module _ (bits : List ℕ) where
     turn so-far m = do
       tag ← field bits 3
       tagged so-far m tag
-
-    -- what follows an element; what follows END is ignored
-    unfoldable pub onward : ℕ → Samples → (ℕ → Samples → Read Sound) → Turn → Read Sound
-    onward so-far m go (audio sound) p = answered (followed sound) (go (so-far + length (sound .chans)) (Known (sound .samples)) p)
-    onward so-far m go passed p = go so-far m p
-    onward so-far m go (end n) p = give (record { samples = n; chans = []; tracks = [] }) p
 
     -- at most `most` elements; `enough-turns` of `laws` shows that the last line is never the packet's answer
     unfoldable pub run : ℕ → ℕ → Samples → Read Sound
