@@ -22,7 +22,7 @@ use Rattle.rules.specs.Symbol.{ones, rest, symbol}
 use Rattle.rules.specs.Rice.{symbolK, runK, runM, historyAfter, runAt, afterValue, sample, rice}
 use Rattle.rules.specs.Prediction.{weighed, guess, errorLeft, adapted, meanOf, window, forecast, next, coefsAfter, predicted, summed, summedFrom}
 use Rattle.rules.specs.Mix.{share, rightOf, leftOf, midOf, onPair, unmixed, mixed}
-use Rattle.rules.specs.Element.{paramsOk, mixOk, allOf, numbers, extended, withExtra, sampleNumber, params, extraBits, channelOf, assembled, rawSound, channel, compressed, uncompressed, body, audioElement}
+use Rattle.rules.specs.Element.{paramsOk, mixOk, allOf, numbers, extended, withExtra, extraBits, channelOf, assembled, rawSound, sampleNumber, params, channel, planned, compressed, uncompressed, header, audioElement}
 use Rattle.rules.specs.Packet.{agrees, followed, skipBytes, dataCount, aligned, dataElement, fillElement, soundElement, endElement, tagged, turn, onward, run, packet}
 use Rattle.rules.specs.Reader.{roomy, decoded, answerOf, written, outputAfter, scratchAfter}
 use Rattle.rules.specs.Writer.{restBits, symbolBits, zeros, riceCode, residual, residuals, channelInRange, mixInRange, inRange, passageFits, joined, paramBits, countBits, headBits, channelCode, channelCodes, packetBits, packetBytes, packed, bytesAfter}
@@ -76,7 +76,7 @@ unfolding stream settings packetOf heard told
     decoded accepted roomy answerOf outputAfter written laid interleaved heads tails every upTo
     digits num bitsOf bytesOf padded within bind times each
     packet run turn tagged soundElement endElement onward agrees followed
-    audioElement sampleNumber body uncompressed compressed params paramsOk mixOk allOf extraBits numbers channel channelOf assembled rawSound
+    audioElement header sampleNumber uncompressed compressed planned params paramsOk mixOk allOf extraBits numbers channel channelOf assembled rawSound
     withExtra extended unmixed symbol ones rest rice sample afterValue historyAfter runAt runM unfolded folded sign
     predicted next forecast guess weighed meanOf window coefsAfter adapted errorLeft summed summedFrom
     packed inRange channelInRange mixInRange passageFits bytesAfter packetBytes packetBits headBits countBits paramBits joined

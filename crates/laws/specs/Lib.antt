@@ -1,3 +1,8 @@
+-- What is proved of the rules alone, in the order of their files.
+pub mod Bits
+pub mod Symbol
+pub mod Rice
+pub mod Length
 pub mod Walk
 pub mod Packet
 pub mod Bench

@@ -13,7 +13,7 @@ use Rattle.rules.specs.Symbol.{ones, rest, symbol}
 use Rattle.rules.specs.Rice.{SymbolReader, Step, RiceData, symbolK, symbolM, runK, runM, historyAfter, runFollows, none, runAt, afterValue, sample, rice}
 use Rattle.rules.specs.Words.{signed}
 use Rattle.rules.specs.Stream.{channelBits}
-use Rattle.rules.specs.Element.{Sound, Channel, Params, paramsOk, mixOk, allOf, assembled, rawSound, sampleNumber, params, extraBits, channelOf, channel, compressed, uncompressed, body, audioElement}
+use Rattle.rules.specs.Element.{Sound, Channel, Header, Params, Plan, paramsOk, mixOk, allOf, extraBits, channelOf, assembled, rawSound, sampleNumber, params, channel, planned, compressed, uncompressed, header, audioElement}
 use Rattle.rules.specs.Packet.{Turn, audio, passed, end, agrees, numberKnown, skipBytes, dataCount, aligned, dataElement, fillElement, soundElement, endElement, tagged, turn, onward, run}
 
 -- a relation between a reader of some bits and the same reader of others
@@ -118,19 +118,24 @@ module _ (bits bits′ : List ℕ) (s : StreamInfo) (R : (A : Type 0) → Read A
         kept .binds (rice-kept (c .factor) (s .kb) b (symbol bits) (symbol bits′) symbol-kept n 0 (s .mb) 0)
         (λ d. kept .binds (check-kept (eqb (c .mode) 0 || eqb (c .mode) 15) refusal.Mode) (λ u. kept .gives (channelOf b c d)))
 
+    plan-kept : (channels : ℕ) → R Plan (planned bits s channels) (planned bits′ s channels)
+    unfolding planned
+    plan-kept channels =
+        kept .binds (kept .fields 8) (λ mixBits.
+        kept .binds (kept .fields 8) (λ mixRes.
+        kept .binds (times-kept channels params-kept) (λ cs.
+        kept .binds (check-kept (allOf paramsOk cs && mixOk channels mixBits (signed 8 mixRes)) refusal.Parameters) (λ u.
+        kept .gives (record { mixBits = mixBits; mixRes = signed 8 mixRes; params = cs })))))
+
     compressed-kept : (channels shift n : ℕ) → R Sound (compressed bits s channels shift n) (compressed bits′ s channels shift n)
     unfolding compressed
     compressed-kept channels shift n =
         let b : ℕ = channelBits s shift channels in
         kept .binds (check-kept (leb b 32) refusal.WideChannel) (λ u.
         kept .binds (check-kept (ltb 0 b) refusal.NoChannelBits) (λ v.
-        kept .binds (kept .fields 8) (λ mixBits.
-        kept .binds (kept .fields 8) (λ mixRes.
-        kept .binds (times-kept channels params-kept) (λ cs.
-        kept .binds (check-kept (allOf paramsOk cs && mixOk channels mixBits (signed 8 mixRes)) refusal.Parameters) (λ w.
+        kept .binds (plan-kept channels) (λ plan.
         kept .binds (kept .extras (n * channels) shift) (λ extra.
-        kept .binds (each-kept cs (channel-kept n b)) (λ read.
-        kept .gives (assembled channels shift n mixBits (signed 8 mixRes) extra read)))))))))
+        kept .binds (each-kept (plan .params) (channel-kept n b)) (λ read. kept .gives (assembled channels shift n plan extra read))))))
 
     uncompressed-kept : (channels code n : ℕ) → R Sound (uncompressed bits s channels code n) (uncompressed bits′ s channels code n)
     unfolding uncompressed
@@ -138,14 +143,9 @@ module _ (bits bits′ : List ℕ) (s : StreamInfo) (R : (A : Type 0) → Read A
         kept .binds (check-kept (eqb code 0) refusal.ShiftedRaw) (λ u.
         kept .binds (times-kept (n * channels) (kept .fields (s .«bit_depth»))) (λ raw. kept .gives (rawSound channels (s .«bit_depth») n raw)))
 
-    body-kept : (channels code raw n : ℕ) → R Sound (body bits s channels code raw n) (body bits′ s channels code raw n)
-    unfolding body
-    body-kept channels code zero n = compressed-kept channels (8 * code) n
-    body-kept channels code (suc raw) n = uncompressed-kept channels code n
-
-    element-kept : (channels : ℕ) → R Sound (audioElement bits s channels) (audioElement bits′ s channels)
-    unfolding audioElement
-    element-kept channels =
+    header-kept : R Header (header bits s) (header bits′ s)
+    unfolding header
+    header-kept =
         kept .binds (kept .fields 4) (λ instance.
         kept .binds (kept .fields 12) (λ unused.
         kept .binds (check-kept (eqb unused 0) refusal.Unused) (λ u.
@@ -153,7 +153,13 @@ module _ (bits bits′ : List ℕ) (s : StreamInfo) (R : (A : Type 0) → Read A
         kept .binds (kept .fields 2) (λ code.
         kept .binds (check-kept (ltb code 3) refusal.Shift) (λ v.
         kept .binds (kept .fields 1) (λ raw.
-        kept .binds (number-kept partial) (λ n. body-kept channels code raw n))))))))
+        kept .binds (number-kept partial) (λ n. kept .gives (record { code = code; raw = raw; samples = n })))))))))
+
+    element-kept : (channels : ℕ) → R Sound (audioElement bits s channels) (audioElement bits′ s channels)
+    unfolding audioElement
+    element-kept channels =
+        kept .binds header-kept (λ h.
+        pick-kept (eqb (h .raw) 0) (compressed-kept channels (8 * h .code) (h .samples)) (uncompressed-kept channels (h .code) (h .samples)))
 
     -- ---- packet
 

@@ -33,12 +33,24 @@ pub record Channel : Type 0 where
   pub values : List ℤ
   pub track : Track
 
+-- what stands before an element's sound: shift code, uncompressed bit and sample number
+pub record Header : Type 0 where
+  pub code : ℕ
+  pub raw : ℕ
+  pub samples : ℕ
+
 -- a channel's parameters; coefficients oldest sample's first, as many as the order
 pub record Params : Type 0 where
   pub mode : ℕ
   pub quant : ℕ
   pub factor : ℕ
   pub coefs : List ℤ
+
+-- what stands before a compressed element's Rice data
+pub record Plan : Type 0 where
+  pub mixBits : ℕ
+  pub mixRes : ℤ
+  pub params : List Params
 
 -- cause 11 of a channel: quant 0, order 31, factor above 127
 unfoldable pub paramsOk : Params → Bool
@@ -77,10 +89,10 @@ channelOf b c d =
     record { values = a .values; track = record { histories = d .histories; coefs = a .coefs } }
 
 -- unmixed, then the extra bits
-unfoldable pub assembled : ℕ → ℕ → ℕ → ℕ → ℤ → List ℕ → List Channel → Sound
-assembled channels shift n mixBits mixRes extra read = record {
+unfoldable pub assembled : ℕ → ℕ → ℕ → Plan → List ℕ → List Channel → Sound
+assembled channels shift n plan extra read = record {
   samples = n;
-  chans = withExtra channels shift extra (unmixed mixBits mixRes (map (λ c. c .values) read));
+  chans = withExtra channels shift extra (unmixed (plan .mixBits) (plan .mixRes) (map (λ c. c .values) read));
   tracks = map (λ c. c .track) read;
 }
 
@@ -114,18 +126,24 @@ module _ (bits : List ℕ) (s : StreamInfo) where
     check (eqb (c .mode) 0 || eqb (c .mode) 15) Mode
     give (channelOf b c d)
 
-  -- 9 and 10 before any further bit; 11 once both channels' parameters are read; extra bits; Rice data of each channel
-  unfoldable pub compressed : ℕ → ℕ → ℕ → Read Sound
-  compressed channels shift n = do
-    check (leb (channelBits s shift channels) 32) WideChannel
-    check (ltb 0 (channelBits s shift channels)) NoChannelBits
+  -- mix_bits 8, mix_res signed 8, the parameters of each channel; 11 once they are all read
+  unfoldable pub planned : ℕ → Read Plan
+  planned channels = do
     mixBits ← field bits 8
     mixRes ← field bits 8
     cs ← times channels params
     check (allOf paramsOk cs && mixOk channels mixBits (signed 8 mixRes)) Parameters
+    give (record { mixBits = mixBits; mixRes = signed 8 mixRes; params = cs })
+
+  -- 9 and 10 before any further bit; extra bits; Rice data of each channel
+  unfoldable pub compressed : ℕ → ℕ → ℕ → Read Sound
+  compressed channels shift n = do
+    check (leb (channelBits s shift channels) 32) WideChannel
+    check (ltb 0 (channelBits s shift channels)) NoChannelBits
+    plan ← planned channels
     extra ← extraBits bits (n * channels) shift
-    read ← each cs (channel n (channelBits s shift channels))
-    give (assembled channels shift n mixBits (signed 8 mixRes) extra read)
+    read ← each (plan .params) (channel n (channelBits s shift channels))
+    give (assembled channels shift n plan extra read)
 
   -- 16 before any sample
   unfoldable pub uncompressed : ℕ → ℕ → ℕ → Read Sound
@@ -134,14 +152,9 @@ module _ (bits : List ℕ) (s : StreamInfo) where
     raw ← times (n * channels) (field bits (s .«bit_depth»))
     give (rawSound channels (s .«bit_depth») n raw)
 
-  -- compressed, or not
-  unfoldable pub body : ℕ → ℕ → ℕ → ℕ → Read Sound
-  body channels code zero n = compressed channels (8 * code) n
-  body channels code (suc raw) n = uncompressed channels code n
-
   -- instance 4, unused 12, partial 1, shift code 2 and 7 before the next bit, uncompressed 1; the sample number
-  unfoldable pub audioElement : ℕ → Read Sound
-  audioElement channels = do
+  unfoldable pub header : Read Header
+  header = do
     instance ← field bits 4
     unused ← field bits 12
     check (eqb unused 0) Unused
@@ -150,4 +163,10 @@ module _ (bits : List ℕ) (s : StreamInfo) where
     check (ltb code 3) Shift
     raw ← field bits 1
     n ← sampleNumber partial
-    body channels code raw n
+    give (record { code = code; raw = raw; samples = n })
+
+  -- shift = 8 x code
+  unfoldable pub audioElement : ℕ → Read Sound
+  audioElement channels = do
+    h ← header
+    pick (eqb (h .raw) 0) (compressed channels (8 * h .code) (h .samples)) (uncompressed channels (h .code) (h .samples))
