@@ -1,7 +1,10 @@
 -- What is proved of the rules alone, in the order of their files.
 pub mod Bits
+pub mod Words
 pub mod Symbol
 pub mod Rice
+pub mod Prediction
+pub mod Mix
 pub mod Length
 pub mod Walk
 pub mod Packet

@@ -145,6 +145,11 @@ headBits channels n frame mixBits mixRes =
     digits 3 (channels - 1) ++ (digits 4 0 ++ (digits 12 0 ++ (digits 1 (pick (ltb n frame) 1 0) ++ (digits 2 0 ++ (digits 1 0
     ++ (countBits n frame ++ (digits 8 mixBits ++ digits 8 mixRes)))))))
 
+-- at most 74 + c x (16 + 16 x order + 51 x n) bits before padding, with each channel's own order
+unfoldable pub bitLimit : ℕ → List ChannelSettings → ℕ
+bitLimit n [] = 74
+bitLimit n (c ∷ cs) = 16 + 16 * c .order + 51 * n + bitLimit n cs
+
 -- a channel's bits, and its history and coefficients after every sample
 pub record ChannelCode : Type 0 where
   pub bits : List ℕ
