@@ -1,5 +1,7 @@
 -- What is proved of the rules alone, in the order of their files.
+pub mod Answers
 pub mod Bits
+pub mod Bytes
 pub mod Words
 pub mod Symbol
 pub mod Rice

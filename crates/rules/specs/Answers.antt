@@ -20,6 +20,11 @@ module _ {A B : Type 0} where
   bind (got a p) next = next a p
   bind (bad x p) next = bad x p
 
+  -- f of the value
+  unfoldable pub answered : (A → B) → Ans A → Ans B
+  answered f (got a p) = got (f a) p
+  answered f (bad x p) = bad x p
+
 -- what is read from a place on
 abbrev pub Read : Type 0 → Type 0
 Read A = ℕ → Ans A
