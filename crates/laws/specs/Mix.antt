@@ -78,7 +78,8 @@ below b q a (pos n) h f g = omega (arith, mag-sub n (suc q), mag-sub n (suc a))
 below b q a (negsuc n) h f g = omega arith
 
 -- for mixRes up to 2 ^ mixBits the share is between 0 and v
-between : (b mixBits mixRes : ℕ) (r v : ℤ) → mixRes ≤ 2 ^ mixBits → InBits b r → InBits b (r +ℤ v) → InBits b (r +ℤ shiftRight (v *ℤ pos mixRes) mixBits)
+between : (b mixBits mixRes : ℕ) (r v : ℤ) → mixRes ≤ 2 ^ mixBits → InBits b r → InBits b (r +ℤ v)
+    → InBits b (r +ℤ shiftRight (v *ℤ pos mixRes) mixBits)
 between b mixBits mixRes r (pos a) h f g =
     above b (a * mixRes / 2 ^ mixBits) a r (div-le-of-le-mul (2 ^ mixBits) (omega (arith, mul-le-mul-left a h, mul-comm a (2 ^ mixBits)))) f g
 between b mixBits zero r (negsuc a) h f g = rw (mul-zero, zero-div, +ℤ-idr) f
@@ -121,7 +122,8 @@ module _ (d mixBits mixRes : ℕ) (h : 1 ≤ d) (k : d ≤ 24) (few : mixRes ≤
         let i : InBits d (r +ℤ s) = between d mixBits mixRes r (l -ℤ r) low g (rw (difference-added r l) f) in
         rw (share-is, wrap-id 32 (r +ℤ s) (lit≤ tt) (in-more d 32 (r +ℤ s) (omega arith) i)) i
 
-  pairs-in : {ls rs : List ℤ} → AllIn d ls → AllIn d rs → AllIn d (pairs (midOf mixBits (pos mixRes)) ls rs) × AllIn (suc d) (pairs sideOf ls rs)
+  pairs-in : {ls rs : List ℤ} → AllIn d ls → AllIn d rs
+      → AllIn d (pairs (midOf mixBits (pos mixRes)) ls rs) × AllIn (suc d) (pairs sideOf ls rs)
   unfolding pairs
   pairs-in none rs = (none, none)
   pairs-in (one f fs) none = (none, none)

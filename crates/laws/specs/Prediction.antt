@@ -20,7 +20,8 @@ unfolding next residual
 next-by b quant past cs x h k f true e = rw e
 next-by b quant past cs x h k f false e = rw e (undone b (forecast quant past cs) x h k f)
 
-pub next-residual : (b quant : ℕ) (past cs : List ℤ) (x : ℤ) → 1 ≤ b → b ≤ 32 → InBits b x → next b quant past cs (residual b quant past cs x) ≡ x
+pub next-residual : (b quant : ℕ) (past cs : List ℤ) (x : ℤ) → 1 ≤ b → b ≤ 32 → InBits b x
+    → next b quant past cs (residual b quant past cs x) ≡ x
 next-residual b quant past cs x h k f = next-by b quant past cs x h k f (eqb (length past) 0) refl
 
 residual-by : (b : ℕ) (x f : ℤ) (t : Bool) → InBits b x → InBits b (pick t x (wrap b (sub32 x f)))

@@ -51,7 +51,8 @@ bits-mod w b s e (negsuc n) f =
     rw g (neg-mod (2 ^ s) (2 ^ b) n (pow-pos b) (rw g at (half-full w (f .sfits))))
 
 module _ (q S B H M : ℕ) (hS : 0 < S) (hq : q < B) (e : M ≡ B * S) (g : M ≡ H * 2) where
-  back : (t : Bool) → ltb (2 * q) B ≡ t → shrZ (sel (ltb (q * S) H) (pos (q * S)) (negsuc (M - suc (q * S)))) S ≡ pick t (pos q) (negsuc (B - suc q))
+  back : (t : Bool) → ltb (2 * q) B ≡ t
+      → shrZ (sel (ltb (q * S) H) (pos (q * S)) (negsuc (M - suc (q * S)))) S ≡ pick t (pos q) (negsuc (B - suc q))
   back true h =
       let l : q * S < H = omega (arith, mul-assoc 2 q S, mul-lt-mul-of-pos-right (ltb-true (2 * q) B h) hS) in
       rw (lt-ltb (q * S) H l) (ap pos (mul-div-cancel q hS))
@@ -75,8 +76,9 @@ module _ (w : Width) (b s : ℕ) (e : bits w ≡ b + s) (z : ℤ) (f : SFits w z
   wrap-shift : shrZ (toZ w ((ofZ w z * 2 ^ s) % 2 ^ bits w)) (2 ^ s) ≡ wrap b z
   unfolding wrap signed
   wrap-shift =
-      rw shifted
-      (back (modZ (2 ^ b) z) (2 ^ s) (2 ^ b) (2 ^ hbits w) (2 ^ bits w) (pow-pos s) (modZ-lt (2 ^ b) z (pow-pos b)) full (pow-bits w) (ltb (2 * modZ (2 ^ b) z) (2 ^ b)) refl)
+      let q = modZ (2 ^ b) z in
+      let small : q < 2 ^ b = modZ-lt (2 ^ b) z (pow-pos b) in
+      rw shifted (back q (2 ^ s) (2 ^ b) (2 ^ hbits w) (2 ^ bits w) (pow-pos s) small full (pow-bits w) (ltb (2 * q) (2 ^ b)) refl)
 
   back-fits : SFits w (shrZ (toZ w ((ofZ w z * 2 ^ s) % 2 ^ bits w)) (2 ^ s))
   back-fits =
@@ -109,18 +111,23 @@ module _ (x y : ℤ) (f : SFits w32 x) (g : SFits w32 y) where
 
   pub product-fits : SFits w64 (x *ℤ y)
   product-fits =
-      record { sfits = lt-of-le-of-lt (le-trans (mag-times x y) (mul-le-mul (natAbs-le x (f .sfits)) (natAbs-le y (g .sfits)))) (lit< tt) }
+      let l : natAbs x * natAbs y ≤ 2 ^ 31 * 2 ^ 31 = mul-le-mul (natAbs-le x (f .sfits)) (natAbs-le y (g .sfits)) in
+      record { sfits = lt-of-le-of-lt (le-trans (mag-times x y) l) (lit< tt) }
 
 -- the number x of a narrower type, cast to 64 bits
 abbrev pub at64 : Width → ℤ → ℤ
 at64 v x = toZ w64 (ofZ w64 (toZ v (ofZ v x)))
 
 -- an operation on two such numbers, and what a callee that wraps makes of it
-module _ (op : ℤ → ℤ → ℤ) (v u : Width) (s : T (leb (hbits v) (hbits w64))) (t : T (leb (hbits u) (hbits w64))) (x y : ℤ) (f : SFits v x) (g : SFits u y) (h : SFits w64 (op x y)) where
+module _
+    (op : ℤ → ℤ → ℤ)
+    (v u : Width) (s : T (leb (hbits v) (hbits w64))) (t : T (leb (hbits u) (hbits w64)))
+    (x y : ℤ) (f : SFits v x) (g : SFits u y) (h : SFits w64 (op x y)) where
   pub op-fits : SFits w64 (op (at64 v x) (at64 u y))
   op-fits = rw (wide v w64 s x f, wide u w64 t y g) h
 
-  pub op-wrapped : (w : Width) (r : ℤ) → r ≡ wrap (bits w) (toZ w64 (ofZ w64 (op (at64 v x) (at64 u y)))) → toZ w (ofZ w r) ≡ wrap (bits w) (op x y)
+  pub op-wrapped : (w : Width) (r : ℤ) → r ≡ wrap (bits w) (toZ w64 (ofZ w64 (op (at64 v x) (at64 u y))))
+      → toZ w (ofZ w r) ≡ wrap (bits w) (op x y)
   op-wrapped w r e =
       wrapped w r (toZ w64 (ofZ w64 (op (at64 v x) (at64 u y)))) (op x y) e
       (rw (wide v w64 s x f, wide u w64 t y g) (toZ-ofZ w64 (op x y) h))
@@ -134,7 +141,8 @@ one-bit w s h =
 
 pub shifted-fits : (x : ℤ) (s : ℕ) → SFits w32 x → s < 32 → SFits w64 (x *ℤ pos (2 ^ s))
 shifted-fits x s f h =
-    record { sfits = lt-of-le-of-lt (le-trans (mag-times x (pos (2 ^ s))) (mul-le-mul (natAbs-le x (f .sfits)) (pow-mono (le-of-suc-le-suc h)))) (lit< tt) }
+    let l : natAbs x * 2 ^ s ≤ 2 ^ 31 * 2 ^ 31 = mul-le-mul (natAbs-le x (f .sfits)) (pow-mono (le-of-suc-le-suc h)) in
+    record { sfits = lt-of-le-of-lt (le-trans (mag-times x (pos (2 ^ s))) l) (lit< tt) }
 
 -- a number of 32 bits and 2 ^ 32 more
 pub above-zero : (x : ℤ) → mag x < 2 ^ 31 → x +ℤ pos 4294967296 ≡ pos (natAbs (x +ℤ pos 4294967296))

@@ -34,7 +34,8 @@ cast-result-3 c = search needs
 
 returns : tie.Need-returns
 returns c =
-    rw (is c) (sym (modZ-lifted (2 ^ 32) 1 (natAbs (c .args .x +ℤ pos 4294967296)) (c .args .x) (lit< tt) (above-zero (c .args .x) (c .fits .x .sfits))))
+    let x = c .args .x in
+    rw (is c) (sym (modZ-lifted (2 ^ 32) 1 (natAbs (x +ℤ pos 4294967296)) x (lit< tt) (above-zero x (c .fits .x .sfits))))
 
 pub bits-of-spec : {M : Type 1} → statement M
 bits-of-spec = tie.close (tie.spec cast-result add-result cast-result-2 cast-result-3 returns)

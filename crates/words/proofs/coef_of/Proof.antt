@@ -18,7 +18,8 @@ low-i16-requires c κs = search needs
 returns : tie.Need-returns
 returns c =
     let v = c .before .args .v in
-    wrapped w16 (c .low-i16 .result) _ _ (c .low-i16 .ensures) (toZ-pos w64 {n = v} (omega (arith, c .before .pre))) ∙ wrap-pos 16 v (c .before .pre)
+    wrapped w16 (c .low-i16 .result) _ _ (c .low-i16 .ensures) (toZ-pos w64 {n = v} (omega (arith, c .before .pre)))
+    ∙ wrap-pos 16 v (c .before .pre)
 
 pub coef-of-spec : {M : Type 1} → statement M
 coef-of-spec = tie.close (tie.spec cast-low-i16 low-i16-requires returns)

@@ -12,11 +12,22 @@ use Rattle.words.proofs.Laws.{held32, from-zero, below-zero, minus-one-
 use Rattle.words.proofs.fold.Statement.{statement}
 use Rattle.words.proofs.fold.Tie as tie
 
-is-pos : (c : tie.Start) → leZ (pos 0) (toZ w32 (ofZ w32 (c .args .x))) ≡ true → toZ w32 (ofZ w32 (c .args .x)) ≡ pos (mag (c .args .x))
-is-pos c e = toZ-ofZ (c .fits .x) ∙ from-zero (c .args .x) (rw (toZ-ofZ (c .fits .x)) at e)
+held : (c : tie.Start) → toZ w32 (ofZ w32 (c .args .x)) ≡ c .args .x
+held c = toZ-ofZ (c .fits .x)
 
-less : (c : tie.Start) → leZ (pos 0) (toZ w32 (ofZ w32 (c .args .x))) ≡ false → negsuc 0 -ℤ toZ w32 (ofZ w32 (c .args .x)) ≡ pos (mag (c .args .x))
-less c e = ap (λ (z : ℤ). negsuc 0 -ℤ z) (toZ-ofZ (c .fits .x) ∙ below-zero (c .args .x) (rw (toZ-ofZ (c .fits .x)) at e)) ∙ minus-one-minus (mag (c .args .x))
+above : (c : tie.Start) → leZ (pos 0) (toZ w32 (ofZ w32 (c .args .x))) ≡ true → c .args .x ≡ pos (mag (c .args .x))
+above c e = from-zero (c .args .x) (rw (held c) at e)
+
+below : (c : tie.Start) → leZ (pos 0) (toZ w32 (ofZ w32 (c .args .x))) ≡ false → c .args .x ≡ negsuc (mag (c .args .x))
+below c e = below-zero (c .args .x) (rw (held c) at e)
+
+is-pos : (c : tie.Start) → leZ (pos 0) (toZ w32 (ofZ w32 (c .args .x))) ≡ true
+    → toZ w32 (ofZ w32 (c .args .x)) ≡ pos (mag (c .args .x))
+is-pos c e = held c ∙ above c e
+
+less : (c : tie.Start) → leZ (pos 0) (toZ w32 (ofZ w32 (c .args .x))) ≡ false
+    → negsuc 0 -ℤ toZ w32 (ofZ w32 (c .args .x)) ≡ pos (mag (c .args .x))
+less c e = ap (λ (z : ℤ). negsuc 0 -ℤ z) (held c ∙ below c e) ∙ minus-one-minus (mag (c .args .x))
 
 back : (c : tie.Start) → toZ w32 (ofZ w32 (pos (mag (c .args .x)))) ≡ pos (mag (c .args .x))
 back c = held32 (pos (mag (c .args .x))) (c .fits .x .sfits)
@@ -41,11 +52,11 @@ add-result c = rw (less (c .before) (c .if1 .left), back (c .before)) (record { 
 
 returns : tie.Need-returns
 unfolding folded
-returns c = rw (is-pos (c .before) (c .if1 .taken), from-zero (c .before .args .x) (rw (toZ-ofZ (c .before .fits .x)) at (c .if1 .taken))) (omega arith)
+returns c = rw (is-pos (c .before) (c .if1 .taken), above (c .before) (c .if1 .taken)) (omega arith)
 
 returns-2 : tie.Need-returns-2
 unfolding folded
-returns-2 c = rw (less (c .before) (c .if1 .left), back (c .before), below-zero (c .before .args .x) (rw (toZ-ofZ (c .before .fits .x)) at (c .if1 .left))) (omega arith)
+returns-2 c = rw (less (c .before) (c .if1 .left), back (c .before), below (c .before) (c .if1 .left)) (omega arith)
 
 pub fold-spec : {M : Type 1} → statement M
 fold-spec =

@@ -14,7 +14,9 @@ low-i32-requires : tie.Need-low-i32-requires
 low-i32-requires c κs = search needs
 
 returns : tie.Need-returns
-returns c = wrapped w32 (c .low-i32 .result) _ _ (c .low-i32 .ensures) (toZ-pos w64 {n = c .before .args .u} (omega (arith, c .before .fits .u .fits)))
+returns c =
+    let s = c .before in
+    wrapped w32 (c .low-i32 .result) _ _ (c .low-i32 .ensures) (toZ-pos w64 {n = s .args .u} (omega (arith, s .fits .u .fits)))
 
 pub number-of-spec : {M : Type 1} → statement M
 number-of-spec = tie.close (tie.spec cast-low-i32 low-i32-requires returns)
