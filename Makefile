@@ -8,8 +8,8 @@ test: kit
 	rt ci
 
 readings: kit
-	rt check readings
-	rt run readings
+	@rt check readings >target/readings.log 2>&1 || { cat target/readings.log; cat target/log/readings.stdout 2>/dev/null; exit 1; }
+	@cat target/log/readings.stdout
 
 # The Rattle kit is all that this repository needs beyond make and a POSIX shell.
 kit:
