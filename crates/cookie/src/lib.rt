@@ -8,7 +8,7 @@ use rules::CookieAnswer;
 use rules::Refusal;
 use rules::StreamInfo;
 
-// The names of the two atoms that older files have before the fields.
+// `frma` and `alac`, the names of the atoms that older files have before the fields.
 const FRMA: u32 = 0x66726D61;
 
 const ALAC: u32 = 0x616C6163;
@@ -51,6 +51,7 @@ pub fn max_frames_per_packet(info: StreamInfo) -> u32
     info.frame_length
 }
 
+// Wraps at 32 bits, as the Rust does in release.
 pub fn max_samples_per_packet(info: StreamInfo) -> u32
     ensures { λ r. ⌜ r ≡ maxSamplesPerPacket info ⌝ }
 {
@@ -58,7 +59,7 @@ pub fn max_samples_per_packet(info: StreamInfo) -> u32
     (samples % 0x1_0000_0000) as u32
 }
 
-// What follows the atom of this name, where one stands first; else all.
+// What follows the atom of this name where one stands first, else all.
 fn past_atom(cookie: &[u8], name: u32) -> &[u8]
     requires { ⌜ 12 ≤ length (now cookie) ⌝ }
     ensures { λ r. ⌜ now r ≡ pastAtom name (now (cookie .entry)) ⌝ }

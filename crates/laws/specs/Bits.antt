@@ -1,6 +1,6 @@
 -- Document 01, "Bits": digits and the numbers they write, reading bits that lie at a place, bits into bytes and back.
 use mathlib.Core.Path.{_≡_, refl, sym, ap, ap₂, _∙_, subst}
-use mathlib.Core.List.{List, [], _∷_, _++_, append-assoc, map}
+use mathlib.Core.List.{List, [], _∷_, _++_, append-assoc}
 use Prim.Native.Nat.{ℕ, zero, suc, _+_, _*_, _/_, _%_, _^_, _≤_, _<_}
 use native.Mathlib.Nat.{mod-eq-of-lt, mod-one, mul-one, add-zero, mul-assoc, mul-comm, mul-add-mod-self-right, mul-add-div-right, pow-suc}
 use native.Mathlib.Numerals.{one-add}
@@ -9,9 +9,8 @@ use lib.ListN.{length, take, drop, replicate, length-append, length-drop, length
 use lib.Seq.{take-at, drop-drop, drop-append-seam, length-take-le}
 use lib.Pow.{mod-pow-add, pow-pos, high}
 use borrow.Author.Tests.{le-leb}
-use Rattle.rules.specs.Answers.{got, bind, times}
+use Rattle.rules.specs.Answers.{got}
 use Rattle.rules.specs.Bits.{digits, num, bitsOf, bytesOf, toEdge, padded, within, field}
-use Rattle.rules.specs.Writer.{joined}
 
 -- ---- digits
 
@@ -84,16 +83,6 @@ next-field {bits} {p} n v w h a = (
 abbrev pub Below : ℕ → List ℕ → Type 0
 Below m [] = Unit {0}
 Below m (v ∷ vs) = (v < m) × Below m vs
-
--- fields of w bits, one after the other
-pub times-at : {bits : List ℕ} {p : ℕ} (w : ℕ) (vs : List ℕ) → Below (2 ^ w) vs → At bits p (joined (map (digits w) vs))
-    → times (length vs) (field bits w) p ≡ got vs (p + length (joined (map (digits w) vs)))
-unfolding times bind joined
-times-at w [] h a = ap (got []) (omega arith)
-times-at w (v ∷ vs) h a =
-    let r = next-field w v (joined (map (digits w) vs)) (h .0) a in
-    rw (r .0, times-at w vs (h .1) (r .1))
-    (ap (got (v ∷ vs)) (omega (arith, length-append (digits w v) (joined (map (digits w) vs)), length-digits w v)))
 
 -- ---- every bit is 0 or 1
 

@@ -3,11 +3,14 @@ pub mod Answers
 pub mod Bits
 pub mod Bytes
 pub mod Words
+pub mod Buffers
 pub mod Symbol
 pub mod Rice
 pub mod Prediction
 pub mod Mix
 pub mod Length
+pub mod Writer
 pub mod Walk
 pub mod Packet
+pub mod Round
 pub mod Bench

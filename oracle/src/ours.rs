@@ -1,0 +1,50 @@
+//! Our library behind its C boundary. Each declaration stands as crates/alac/src/lib.rt has it: a slice is a pointer and a length.
+
+extern "C" {
+    fn alac_stream_info(cookie: *const u8, cookie_len: usize, fields: *mut u64) -> u32;
+    fn alac_decode_packet_i16(
+        cookie: *const u8, cookie_len: usize, packet: *const u8, packet_len: usize,
+        out: *mut i16, out_len: usize, scratch: *mut i32, scratch_len: usize, answer: *mut u64,
+    ) -> u32;
+    fn alac_decode_packet_i32(
+        cookie: *const u8, cookie_len: usize, packet: *const u8, packet_len: usize,
+        out: *mut i32, out_len: usize, scratch: *mut i32, scratch_len: usize, answer: *mut u64,
+    ) -> u32;
+}
+
+pub fn stream_info(cookie: &[u8], fields: &mut [u64; 11]) -> u32 {
+    unsafe { alac_stream_info(cookie.as_ptr(), cookie.len(), fields.as_mut_ptr()) }
+}
+
+/// A sample width: what differs between the two entries.
+pub trait Width: Copy + PartialEq + std::fmt::Debug + Default + alac::Sample + departed::Sample {
+    const WIDE: bool;
+    const MARK: Self;
+    fn decode(cookie: &[u8], packet: &[u8], out: &mut [Self], scratch: &mut [i32], answer: &mut [u64; 4]) -> u32;
+}
+
+impl Width for i16 {
+    const WIDE: bool = false;
+    const MARK: i16 = 0x5A5A;
+    fn decode(cookie: &[u8], packet: &[u8], out: &mut [i16], scratch: &mut [i32], answer: &mut [u64; 4]) -> u32 {
+        unsafe {
+            alac_decode_packet_i16(
+                cookie.as_ptr(), cookie.len(), packet.as_ptr(), packet.len(), out.as_mut_ptr(), out.len(),
+                scratch.as_mut_ptr(), scratch.len(), answer.as_mut_ptr(),
+            )
+        }
+    }
+}
+
+impl Width for i32 {
+    const WIDE: bool = true;
+    const MARK: i32 = 0x5A5A_5A5A;
+    fn decode(cookie: &[u8], packet: &[u8], out: &mut [i32], scratch: &mut [i32], answer: &mut [u64; 4]) -> u32 {
+        unsafe {
+            alac_decode_packet_i32(
+                cookie.as_ptr(), cookie.len(), packet.as_ptr(), packet.len(), out.as_mut_ptr(), out.len(),
+                scratch.as_mut_ptr(), scratch.len(), answer.as_mut_ptr(),
+            )
+        }
+    }
+}
