@@ -71,7 +71,10 @@ fn values(n: usize, bits: u32, r: &mut Random) -> Vec<u64> {
             0 => 0,
             1 => r.below(3) / 2,
             2 => r.below(8),
-            3 => r.below(1 << r.range(1, bits.min(20) as u64)),
+            3 => {
+                let width = r.range(1, bits.min(20) as u64);
+                r.below(1 << width)
+            }
             4 => r.next() & top,
             _ => r.pick(&[0, 0, 0, 0, 0, 0, 1, 2, top, top - top / 2]),
         })

@@ -11,7 +11,7 @@ use borrow.Author.Tests.{le-leb, lt-leb, leb-true}
 use Rattle.rules.specs.declared.Place.{Place}
 use Rattle.rules.specs.declared.Refusal.{Refusal}
 use Rattle.rules.specs.declared.Refusal.the-variants as refusal
-use Rattle.rules.specs.Answers.{Ans, got, bad, pick}
+use Rattle.rules.specs.Answers.{Ans, got, bad, pick, bind}
 use Rattle.rules.specs.Bits.{bitOf, placeOf, num, bitsOf, within, field, skip}
 use Rattle.laws.specs.Bits.{length-bitsOf}
 use Rattle.laws.specs.Bytes.{bit-of, num-next, field-lt}
@@ -126,6 +126,15 @@ module _ {A : Type 0} {a : Ans A} {v : A} {g : Reached} (r : Reaches a v g) wher
   pub refused-plain-of : {x : Refusal} {pl : Place} → g ≡ reached.Refused x pl → pl .bit < 8
   unfolding PlainAt
   refused-plain-of k = rw k at (r .plain)
+
+-- with another value in the first one's place
+pub reaches-then : {A B : Type 0} {a : Ans A} {v : A} {g : Reached} → Reaches a v g → (w : B) → Reaches (bind a (λ x p. got w p)) w g
+unfolding bind toldAs
+reaches-then {v} {g} r w = record { tells = rw (← r .tells) (same g); plain = r .plain }
+  where
+    same : (h : Reached) → toldAs w h ≡ bind (toldAs v h) (λ x p. got w p)
+    same (reached.At pl) = refl
+    same (reached.Refused x pl) = refl
 
 -- a refused skip began where it was asked
 pub skip-cut-of : (bits : List ℕ) (n p : ℕ) {g : Reached} → Reaches (skip bits n p) tt g → {x : Refusal} {pl : Place} → g ≡ reached.Refused x pl

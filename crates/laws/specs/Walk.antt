@@ -14,7 +14,7 @@ use Rattle.rules.specs.Rice.{SymbolReader, Step, RiceData, symbolK, symbolM, ru
 use Rattle.rules.specs.Words.{signed}
 use Rattle.rules.specs.Stream.{channelBits}
 use Rattle.rules.specs.Element.{Sound, Channel, Header, Params, Plan, paramsOk, mixOk, allOf, extraBits, channelOf, assembled, rawSound, sampleNumber, params, channel, planned, compressed, uncompressed, header, audioElement}
-use Rattle.rules.specs.Packet.{Turn, audio, passed, end, agrees, numberKnown, skipBytes, dataCount, aligned, dataElement, fillElement, soundElement, endElement, tagged, turn, onward, run}
+use Rattle.rules.specs.Packet.{Turn, audio, passed, end, agrees, numberKnown, skipBytes, dataCount, aligned, dataBytes, dataElement, fillElement, soundElement, endElement, tagged, turn, onward, run}
 
 -- a relation between a reader of some bits and the same reader of others
 module _ (bits bits′ : List ℕ) (s : StreamInfo) (R : (A : Type 0) → Read A → Read A → Type 0) where
@@ -177,7 +177,7 @@ module _ (bits bits′ : List ℕ) (s : StreamInfo) (R : (A : Type 0) → Read A
     aligned-kept (suc asked) = kept .edges
 
     data-kept : R Turn (dataElement bits) (dataElement bits′)
-    unfolding dataElement
+    unfolding dataElement dataBytes
     data-kept =
         kept .binds (kept .fields 4) (λ instance.
         kept .binds (kept .fields 1) (λ align. kept .binds count-kept (λ n. kept .binds (aligned-kept align) (λ u. bytes-kept n))))

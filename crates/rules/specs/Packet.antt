@@ -58,14 +58,18 @@ module _ (bits : List ℕ) where
   aligned zero = give tt
   aligned (suc asked) = skipToByte bits
 
+  unfoldable pub dataBytes : ℕ → ℕ → Read Turn
+  dataBytes asked n = do
+    aligned asked
+    skipBytes n
+
   -- DSE: instance 4, align 1, count, bytes
   unfoldable pub dataElement : Read Turn
   dataElement = do
     instance ← field bits 4
     align ← field bits 1
     n ← dataCount
-    aligned align
-    skipBytes n
+    dataBytes align n
 
   -- FIL: count 4, bytes; 15 is 18
   unfoldable pub fillElement : Read Turn
