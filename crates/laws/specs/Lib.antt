@@ -4,6 +4,7 @@ pub mod Bits
 pub mod Bytes
 pub mod Words
 pub mod Buffers
+pub mod Stored
 pub mod Symbol
 pub mod Rice
 pub mod Prediction
@@ -12,5 +13,6 @@ pub mod Length
 pub mod Writer
 pub mod Walk
 pub mod Packet
+pub mod Shape
 pub mod Round
 pub mod Bench
