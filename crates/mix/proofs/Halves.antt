@@ -1,0 +1,129 @@
+-- Channels that were laid into scratch: they are there, the last ones laid win, later places stay; and parts of scratch that come back from a loan.
+use Prim.Native.Nat.{ℕ, zero, suc, _+_, _-_, _*_, _≤_, _<_}
+use mathlib.Core.Path.{_≡_, refl, sym, ap, ap₂, _∙_}
+use mathlib.Core.List.{List, [], _∷_, _++_, append-assoc}
+use native.Mathlib.Nat.{suc-mul}
+use native.Mathlib.Omega.{arith}
+use lib.ListN.{length, take, drop, set, length-append, length-take, length-drop, length-set, take-append-drop}
+use lib.Seq.{length-take-le, take-all, take-append-le, drop-append-le, drop-append-add, take-at, drop-at, drop-drop, take-take, take-set-lt, take-set-le, drop-set-lt, drop-set-add}
+use lib.IntN.{ℤ}
+use borrow.Rule.Slice.PartMut.{putMid}
+use Rattle.rules.specs.Buffers.{laid}
+use Rattle.laws.specs.Words.{Every, none, one}
+use Rattle.mix.specs.Halves.{parts, withParts}
+
+-- ---- laid
+
+module _ {A : Type 0} where
+  pub laid-fits : (xs was : List A) → length xs ≤ length was → laid xs was ≡ xs ++ drop (length xs) was
+  unfolding laid
+  laid-fits xs was h = rw (take-all (length was) xs h)
+
+  length-laid : (xs was : List A) → length (laid xs was) ≡ length was
+  unfolding laid
+  length-laid xs was = simp (length-append, length-take, length-drop) (omega arith)
+
+  drop-laid : (k : ℕ) (xs was : List A) → length xs ≤ k → length xs ≤ length was → drop k (laid xs was) ≡ drop k was
+  drop-laid k xs was h l =
+      let e : k ≡ length xs + (k - length xs) = omega arith in
+      rw (laid-fits xs was l, e, drop-append-add, drop-drop)
+
+  -- over the same places the last wins
+  laid-laid : (xs ys was : List A) → length xs ≤ length ys → length ys ≤ length was → laid ys (laid xs was) ≡ laid ys was
+  laid-laid xs ys was h k =
+      let l : length ys ≤ length (laid xs was) = rw length-laid k in
+      rw (laid-fits ys (laid xs was) l, laid-fits ys was k, drop-laid (length ys) xs was h (omega arith))
+
+-- ---- channels in scratch
+
+module _ (half : ℕ) where
+  pub with-length : (chans : List (List ℤ)) (scr : List ℤ) → length (withParts half chans scr) ≡ length scr
+  unfolding withParts
+  with-length [] scr = refl
+  with-length (xs ∷ chans) scr =
+      rw (length-append, length-laid, with-length chans (drop half scr)) (sym (length-append (take half scr) (drop half scr)) ∙ ap length (take-append-drop half scr))
+
+  module _ (xs : List ℤ) (chans : List (List ℤ)) (scr : List ℤ) (h : half ≤ length scr) where
+    length-first : length (laid xs (take half scr)) ≡ half
+    length-first = length-laid xs (take half scr) ∙ length-take-le half scr h
+
+    with-take : take half (withParts half (xs ∷ chans) scr) ≡ laid xs (take half scr)
+    unfolding withParts
+    with-take = take-at (laid xs (take half scr)) (withParts half chans (drop half scr)) half length-first
+
+    with-drop : drop half (withParts half (xs ∷ chans) scr) ≡ withParts half chans (drop half scr)
+    unfolding withParts
+    with-drop = drop-at (laid xs (take half scr)) (withParts half chans (drop half scr)) half length-first
+
+  -- a half less
+  less : (w : ℕ) (scr : List ℤ) → suc w * half ≤ length scr → (half ≤ length scr) × (w * half ≤ length (drop half scr))
+  less w scr h = (omega (arith, suc-mul w half), rw length-drop (omega (arith, suc-mul w half)))
+
+  pub with-rest : (w : ℕ) (chans : List (List ℤ)) (scr : List ℤ) → length chans ≤ w → w * half ≤ length scr
+      → drop (w * half) (withParts half chans scr) ≡ drop (w * half) scr
+  unfolding withParts
+  with-rest w [] scr h k = refl
+  with-rest zero (xs ∷ chans) scr h k = absurd (omega arith)
+  with-rest (suc w) (xs ∷ chans) scr h k =
+      let l = less w scr k in
+      let e : suc w * half ≡ half + w * half = omega (arith, suc-mul w half) in
+      rw (e, ← drop-drop (w * half) half scr, ← drop-drop (w * half) half (withParts half (xs ∷ chans) scr))
+      (ap (drop (w * half)) (with-drop xs chans scr (l .0)) ∙ with-rest w chans (drop half scr) (omega arith) (l .1))
+
+  module _ (n : ℕ) (short : n ≤ half) where
+    module _ (xs : List ℤ) (scr : List ℤ) (e : length xs ≡ n) (h : half ≤ length scr) where
+      in-half : length xs ≤ length (take half scr)
+      in-half = rw (length-take-le half scr h, e) short
+
+      take-with : (chans : List (List ℤ)) → take n (withParts half (xs ∷ chans) scr) ≡ xs
+      take-with chans =
+          sym (take-take n half (withParts half (xs ∷ chans) scr) short)
+          ∙ rw (with-take xs chans scr h, laid-fits xs (take half scr) in-half) (take-at xs (drop (length xs) (take half scr)) n e)
+
+    pub parts-with : {chans : List (List ℤ)} (scr : List ℤ) → Every (λ c. length c ≡ n) chans → length chans * half ≤ length scr
+        → parts half n (length chans) (withParts half chans scr) ≡ chans
+    unfolding parts
+    parts-with scr none h = refl
+    parts-with scr (one {x = xs} {xs = chans} e es) h =
+        let l = less (length chans) scr h in
+        rw (take-with xs scr e (l .0) chans, with-drop xs chans scr (l .0), parts-with (drop half scr) es (l .1))
+
+    -- laid again over the same places: the last wins
+    pub with-with : {chans more : List (List ℤ)} (scr : List ℤ) → Every (λ c. length c ≡ n) chans → Every (λ c. length c ≡ n) more
+        → length chans ≤ length more → length more * half ≤ length scr
+        → withParts half more (withParts half chans scr) ≡ withParts half more scr
+    unfolding withParts
+    with-with scr none ds h k = refl
+    with-with scr (one e es) none h k = absurd (omega arith)
+    with-with scr (one {x = xs} {xs = chans} e es) (one {x = ys} {xs = more} d ds) h k =
+        let l = less (length more) scr k in
+        rw (
+          with-take xs chans scr (l .0),
+          with-drop xs chans scr (l .0),
+          with-with (drop half scr) es ds (omega arith) (l .1),
+          laid-laid xs ys (take half scr) (omega arith) (in-half ys scr d (l .0)),
+        )
+
+    -- ---- parts that come back from a loan
+
+    pub with-first : (ys scr : List ℤ) → length ys ≡ n → half ≤ length scr → ys ++ drop n scr ≡ withParts half (ys ∷ []) scr
+    unfolding withParts
+    with-first ys scr e h =
+        let l = in-half ys scr e h in
+        rw (laid-fits ys (take half scr) l, append-assoc, ← drop-append-le (length ys) (take half scr) (drop half scr) l, take-append-drop, e)
+
+    -- after the first channel, whether the second was there or not
+    pub with-second : (us vs : List ℤ) {more : List (List ℤ)} (scr : List ℤ) → length us ≡ n → length vs ≡ n
+        → Every (λ c. length c ≡ n) more → length more ≤ 1 → 2 * half ≤ length scr
+        → putMid half (half + n - half) (withParts half (us ∷ more) scr) vs ≡ withParts half (us ∷ vs ∷ []) scr
+    unfolding withParts
+    with-second us vs {more} scr e f es g h =
+        let l = less 1 scr h in
+        let k : half + n - half ≡ n = omega arith in
+        rw (
+          with-take us more scr (l .0),
+          with-drop us more scr (l .0),
+          k,
+          with-first vs (withParts half more (drop half scr)) f (rw with-length (omega arith)),
+          with-with (drop half scr) es (one {x = vs} f none) g (l .1),
+        )

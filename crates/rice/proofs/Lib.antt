@@ -1,0 +1,4 @@
+mod Symbols
+mod Samples
+mod Loop
+pub mod Laws

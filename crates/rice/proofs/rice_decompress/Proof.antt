@@ -1,0 +1,49 @@
+-- `rice_decompress` meets its contract: the buffer is whole or it is cleared.
+use Prim.Native.Nat.{ℕ}
+use mathlib.Core.Path.{ap, _∙_}
+use lib.IntN.{pos}
+use lib.ListN.{replicate}
+use Rattle.rice.proofs.Laws.{met-whole, met-refused}
+use borrow.Author.Needs.{needs}
+use Rattle.rice.proofs.rice_decompress.Statement.{statement}
+use Rattle.rice.proofs.rice_decompress.Tie as tie
+
+read-samples-requires : tie.Need-read-samples-requires
+read-samples-requires c κs = search needs
+
+enum-told : tie.Need-enum-told
+enum-told c = search needs
+
+clear-requires : tie.Need-clear-requires
+clear-requires c κs = search needs
+
+enum-told-2 : tie.Need-enum-told-2
+enum-told-2 c = search needs
+
+same-length : tie.Need-same-length
+same-length c = search needs
+
+returns : tie.Need-returns
+returns c =
+    let d = c .before .before .before .before .before .before in
+    met-refused (d .read-samples .ensures) (c .before .before .before .enum-told .given .1)
+    (c .before .clear .ensures ∙ ap (λ (n : ℕ). replicate n (pos 0)) (d .read-samples .kept .1 .1 .1 .1 .0))
+
+same-length-2 : tie.Need-same-length-2
+same-length-2 c = search needs
+
+returns-2 : tie.Need-returns-2
+returns-2 c = met-whole (c .before .before .before .read-samples .ensures) (c .enum-told2 .given .1)
+
+pub rice-decompress-spec : {M : Type 1} → statement M
+rice-decompress-spec =
+    tie.close
+    (tie.spec
+    read-samples-requires
+    enum-told
+    clear-requires
+    enum-told-2
+    same-length
+    returns
+    same-length-2
+    returns-2)

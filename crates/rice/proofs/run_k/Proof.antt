@@ -1,0 +1,26 @@
+-- `run_k` meets its contract: a history below 128 has 24 leading zeros or more.
+use mathlib.Core.Path.{refl}
+use native.Mathlib.Omega.{arith}
+use Rattle.rules.specs.Rice.{runK}
+use Rattle.laws.specs.Rice.{runK-range}
+use Rattle.rice.proofs.Symbols.{leading-small}
+use borrow.Author.Needs.{needs}
+use Rattle.rice.proofs.run_k.Statement.{statement}
+use Rattle.rice.proofs.run_k.Tie as tie
+
+sub-result : tie.Need-sub-result
+sub-result c = leading-small (c .args .h) (c .pre)
+
+add-result : tie.Need-add-result
+add-result c = search needs
+
+add-result-2 : tie.Need-add-result-2
+unfolding runK
+add-result-2 c = omega (arith, runK-range (c .args .h) (c .pre))
+
+returns : tie.Need-returns
+unfolding runK
+returns c = refl
+
+pub run-k-spec : {M : Type 1} → statement M
+run-k-spec = tie.close (tie.spec sub-result add-result add-result-2 returns)
