@@ -120,7 +120,7 @@ num-lt (suc zero ∷ ds) a = omega (arith, num-lt ds (a .1), pow-suc 2 (length d
 num-lt (suc (suc d) ∷ ds) a = absurd (omega (arith, a .0))
 
 -- digits above the n lowest are not seen
-digits-above : (n x v : ℕ) → digits n (x * 2 ^ n + v) ≡ digits n v
+pub digits-above : (n x v : ℕ) → digits n (x * 2 ^ n + v) ≡ digits n v
 unfolding digits
 digits-above zero x v = refl
 digits-above (suc n) x v =

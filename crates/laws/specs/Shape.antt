@@ -115,7 +115,7 @@ module _ (bits : List ℕ) (s : StreamInfo) where
 
 -- ---- the element
 
-numbers-length : (n w : ℕ) (bits : List ℕ) → length (numbers n w bits) ≡ n
+pub numbers-length : (n w : ℕ) (bits : List ℕ) → length (numbers n w bits) ≡ n
 unfolding numbers
 numbers-length zero w bits = refl
 numbers-length (suc n) w bits = ap suc (numbers-length n w (drop w bits))
@@ -139,7 +139,7 @@ pair-formed f g (us ∷ vs ∷ []) h = record { count = h .count; long = both (h
     both (one a (one b none)) = one (pairs-length f us vs a b) (one (pairs-length g us vs a b) none)
 pair-formed f g (us ∷ vs ∷ ws ∷ chans) h = h
 
-unmixed-formed : (mixBits : ℕ) (mixRes : ℤ) {w n : ℕ} (chans : List (List ℤ)) → Formed w n chans → Formed w n (unmixed mixBits mixRes chans)
+pub unmixed-formed : (mixBits : ℕ) (mixRes : ℤ) {w n : ℕ} (chans : List (List ℤ)) → Formed w n chans → Formed w n (unmixed mixBits mixRes chans)
 unfolding unmixed
 unmixed-formed mixBits mixRes {w} {n} chans h = go (isZero mixRes)
   where
@@ -157,7 +157,7 @@ pairs-formed f {w} {n} chans extra h e l = record { count = pairs-length (pairs 
     all (x ∷ xs) [] a b = none
     all (x ∷ xs) (y ∷ ys) (one a as′) (one b bs) = one (pairs-length f x y a b) (all xs ys as′ bs)
 
-extra-formed : (w shift n : ℕ) (extra : List ℕ) (chans : List (List ℤ)) → 1 ≤ w → length extra ≡ n * w → Formed w n chans → Formed w n (withExtra w shift extra chans)
+pub extra-formed : (w shift n : ℕ) (extra : List ℕ) (chans : List (List ℤ)) → 1 ≤ w → length extra ≡ n * w → Formed w n chans → Formed w n (withExtra w shift extra chans)
 unfolding withExtra
 extra-formed w shift n extra chans l e h = go (eqb shift 0)
   where

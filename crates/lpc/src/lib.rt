@@ -6,7 +6,7 @@ ghost use Rattle.rules.specs.Words.{mul32, sign};
 ghost use Rattle.rules.specs.Prediction.{weighed, guess, errorLeft, adapted, forecast, coefsAfter, summed};
 ghost use Rattle.lpc.specs.Predicts.{Width, Window, Loss, Ready, Later, Tuned, Predicts};
 
-// Mode 15: what was read are differences, and each is added to the sum before it. Prediction still follows.
+// Mode 15, which the Rust calls order 31: what was read are differences, each added to the sum before it. Prediction follows all the same.
 pub fn lpc_predict_order_31(buf: &mut [i32], bps: u32)
     requires { ⌜ Width bps ⌝ }
     ensures { λ _. ⌜ now (buf .exit) ≡ summed bps (now (buf .entry)) ⌝ }
@@ -43,7 +43,7 @@ fn predict_from(xs: &[i32], mean: i32, lpc_coefs: &[i16], lpc_quant: u32) -> i32
     words::shift_down(rounded, lpc_quant)
 }
 
-// What the residual at `i` is added to. The first `order` samples have too few before them, and go by the previous one.
+// What the residual at `i` is added to. Samples 1 to `order` have too few before them, and go by the previous one.
 pub fn forecast_at(buf: &[i32], i: usize, lpc_coefs: &[i16], lpc_quant: u32) -> i32
     requires { ⌜ Later «lpc_quant» i (now buf) (now «lpc_coefs») ⌝ }
     ensures { λ r. ⌜ r ≡ forecast «lpc_quant» (take i (now (buf .entry))) (now («lpc_coefs» .entry)) ⌝ }

@@ -1,11 +1,11 @@
 -- Channels that were laid into scratch: they are there, the last ones laid win, later places stay; and parts of scratch that come back from a loan.
-use Prim.Native.Nat.{ℕ, zero, suc, _+_, _-_, _*_, _≤_, _<_}
-use mathlib.Core.Path.{_≡_, refl, sym, ap, ap₂, _∙_}
+use Prim.Native.Nat.{ℕ, zero, suc, _+_, _-_, _*_, _≤_}
+use mathlib.Core.Path.{_≡_, refl, sym, ap, _∙_}
 use mathlib.Core.List.{List, [], _∷_, _++_, append-assoc}
 use native.Mathlib.Nat.{suc-mul}
 use native.Mathlib.Omega.{arith}
-use lib.ListN.{length, take, drop, set, length-append, length-take, length-drop, length-set, take-append-drop}
-use lib.Seq.{length-take-le, take-all, take-append-le, drop-append-le, drop-append-add, take-at, drop-at, drop-drop, take-take, take-set-lt, take-set-le, drop-set-lt, drop-set-add}
+use lib.ListN.{length, take, drop, length-append, length-take, length-drop, take-append-drop}
+use lib.Seq.{length-take-le, take-all, drop-append-le, drop-append-add, take-at, drop-at, drop-drop, take-take}
 use lib.IntN.{ℤ}
 use borrow.Rule.Slice.PartMut.{putMid}
 use Rattle.rules.specs.Buffers.{laid}

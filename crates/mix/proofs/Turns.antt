@@ -1,6 +1,6 @@
 -- One turn of each loop: what is done, and what the rules make of the rest, is what they make of all.
-use Prim.Native.Nat.{ℕ, zero, suc, _+_, _-_, _*_, _≤_, _<_, zero-le}
-use mathlib.Core.Path.{_≡_, refl, sym, ap, _∙_}
+use Prim.Native.Nat.{ℕ, zero, suc, _+_, _-_, _*_, _≤_, _<_}
+use mathlib.Core.Path.{_≡_, refl, sym, _∙_}
 use mathlib.Core.List.{List, [], _∷_, _++_, append-assoc, append-nil}
 use native.Mathlib.Nat.{sub-zero, zero-mul, mul-zero, one-mul, add-zero, add-mul, mul-add, mul-le-mul-left, mul-le-mul-right}
 use native.Mathlib.Numerals.{add-one}
@@ -129,25 +129,34 @@ module _ (f g : ℤ → ℤ → ℤ) (half n : ℕ) where
   unfolding parts onPair
   unmixing-start was = record { same = refl; goes = refl }
 
-  module _ (was is : List ℤ) (i : ℕ) (short : n ≤ half) (room : 2 * half ≤ length was) (u : Unmixing was is i) where
-    pub unmixing-next : {x y : ℤ} → i < n
-        → x ≡ f (getD is i (pos 0)) (getD is (half + i) (pos 0)) → y ≡ g (getD is i (pos 0)) (getD is (half + i) (pos 0))
-        → Unmixing was (set (set is i x) (half + i) y) (i + 1)
-    unfolding pairs
-    unmixing-next {x} {y} h d e =
-        let k : 2 * half ≤ length is = omega (arith, u .same) in
-        record {
-          same = simp length-set (u .same);
-          goes = turn-two half n is i h short k x y _ _ ∙ (rw (low-next half n is i h short k x y, high-next half n is i h short k x y, ← d, ← e) at (u .goes));
-        }
+module _
+    {f g : ℤ → ℤ → ℤ} {half n : ℕ} {was is : List ℤ} {i : ℕ}
+    (short : n ≤ half) (room : 2 * half ≤ length was) (u : Unmixing f g half n was is i) where
+  pub unmixing-next : {x y : ℤ} → i < n
+      → x ≡ f (getD is i (pos 0)) (getD is (half + i) (pos 0)) → y ≡ g (getD is i (pos 0)) (getD is (half + i) (pos 0))
+      → Unmixing f g half n was (set (set is i x) (half + i) y) (i + 1)
+  unfolding pairs
+  unmixing-next {x} {y} h d e =
+      let k : 2 * half ≤ length is = omega (arith, u .same) in
+      record {
+        same = simp length-set (u .same);
+        goes =
+            turn-two half n is i h short k x y _ _
+            ∙ (rw (low-next half n is i h short k x y, high-next half n is i h short k x y, ← d, ← e) at (u .goes));
+      }
 
-    pub unmixing-done : n ≤ i → is ≡ withParts half (onPair f g (parts half n 2 was)) was
-    unfolding pairs withParts
-    unmixing-done h =
-        let k : half ≤ length is = omega (arith, u .same) in
-        let l : half ≤ length (drop half is) = simp length-drop (omega (arith, u .same)) in
-        let whole = rw (none-left half n is i h, all-done half n is i h short k, all-done half n (drop half is) i h short l, take-append-drop half (drop half is), take-append-drop half is) at (u .goes) in
-        whole
+  pub unmixing-done : n ≤ i → is ≡ withParts half (onPair f g (parts half n 2 was)) was
+  unfolding pairs withParts
+  unmixing-done h =
+      let k : half ≤ length is = omega (arith, u .same) in
+      let l : half ≤ length (drop half is) = simp length-drop (omega (arith, u .same)) in
+      rw (
+        none-left half n is i h,
+        all-done half n is i h short k,
+        all-done half n (drop half is) i h short l,
+        take-append-drop,
+        take-append-drop,
+      ) at (u .goes)
 
 -- ---- extra bits
 
@@ -180,75 +189,89 @@ module _ (bits : List ℕ) (half n shift start : ℕ) where
   allExtended w s = pairs (pairs (extended shift)) (parts half n w s) (lanes w (numbers (n * w) shift (drop start bits)))
 
   pub record Appending (w : ℕ) (was is : List ℤ) (p i : ℕ) : Type 0 where
-    pub upto : i ≤ n
     pub same : length is ≡ length was
     pub place : p ≡ start + shift * (i * w)
     pub goes : withParts half (extendedFrom w i p is) is ≡ withParts half (allExtended w was) was
 
   pub appending-start : (w : ℕ) (was : List ℤ) → Appending w was was start 0
-  appending-start w was = record { upto = zero-le; same = refl; place = rw (zero-mul, mul-zero, add-zero); goes = rw sub-zero }
+  appending-start w was = record { same = refl; place = rw (zero-mul, mul-zero, add-zero); goes = rw sub-zero }
 
-  module _ (was is : List ℤ) (p i : ℕ) (h : i < n) (short : n ≤ half) (room : 2 * half ≤ length was) where
-    next-one : (is′ : List ℤ) (pl : Place) → Appending 1 was is p i → Took bits p shift i is is′ pl → Appending 1 was is′ (bitOf pl) (i + 1)
-    unfolding parts pairs upTo every numbers
-    next-one is′ pl u t =
-        let k : 2 * half ≤ length is = omega (arith, u .same) in
-        let e : (n - i) * 1 ≡ suc ((n - (i + 1)) * 1) = omega arith in
-        let x : ℤ = extended shift (getD is i (pos 0)) (num (take shift (drop p bits))) in
-        let v : Appending 1 was (set is i x) (p + shift) (i + 1) = record {
-          upto = omega arith;
-          same = simp length-set (u .same);
-          place = omega (arith, place-next start shift i 1 (u .place));
-          goes = turn-one half n is i h short k x _ ∙ (rw (e, drop-drop, rest-next n is i x h (in-first half n is i h short k)) at (u .goes));
-        } in
-        rw (t .sample, t .after) v
+module _
+    {bits : List ℕ} {half n shift start : ℕ} {was is : List ℤ} {p i : ℕ}
+    (h : i < n) (short : n ≤ half) (room : 2 * half ≤ length was) where
+  next-one : {is′ : List ℤ} {pl : Place} → Appending bits half n shift start 1 was is p i → Took bits p shift i is is′ pl
+      → Appending bits half n shift start 1 was is′ (bitOf pl) (i + 1)
+  unfolding parts pairs upTo every numbers
+  next-one u t =
+      let k : 2 * half ≤ length is = omega (arith, u .same) in
+      let e : (n - i) * 1 ≡ suc ((n - (i + 1)) * 1) = omega arith in
+      let x : ℤ = extended shift (getD is i (pos 0)) (num (take shift (drop p bits))) in
+      let v : Appending bits half n shift start 1 was (set is i x) (p + shift) (i + 1) = record {
+        same = simp length-set (u .same);
+        place = omega (arith, place-next start shift i 1 (u .place));
+        goes = turn-one half n is i h short k x _ ∙ (rw (e, drop-drop, rest-next n is i x h (in-first half n is i h short k)) at (u .goes));
+      } in
+      rw (t .sample, t .after) v
 
-    next-two : (mid is′ : List ℤ) (pl ql : Place) → Appending 2 was is p i → Took bits p shift i is mid pl → Took bits (bitOf pl) shift (half + i) mid is′ ql
-        → Appending 2 was is′ (bitOf ql) (i + 1)
-    unfolding parts pairs upTo every numbers
-    next-two mid is′ pl ql u t r =
-        let k : 2 * half ≤ length is = omega (arith, u .same) in
-        let e : (n - i) * 2 ≡ suc (suc ((n - (i + 1)) * 2)) = omega arith in
-        let x : ℤ = extended shift (getD is i (pos 0)) (num (take shift (drop p bits))) in
-        let y : ℤ = extended shift (getD is (half + i) (pos 0)) (num (take shift (drop (p + shift) bits))) in
-        let other : half + i ≡ i → ⊥ = λ a. omega arith in
-        let v : Appending 2 was (set (set is i x) (half + i) y) (p + shift + shift) (i + 1) = record {
-          upto = omega arith;
-          same = simp length-set (u .same);
-          place = omega (arith, place-next start shift i 2 (u .place));
-          goes = turn-two half n is i h short k x y _ _ ∙ (rw (e, drop-drop shift p bits, drop-drop shift (p + shift) bits, low-next half n is i h short k x y, high-next half n is i h short k x y) at (u .goes));
-        } in
-        rw (r .sample, r .after, t .sample, t .after, getD-set-other is i (half + i) x (pos 0) other) v
+  next-two : {mid is′ : List ℤ} {pl ql : Place} → Appending bits half n shift start 2 was is p i
+      → Took bits p shift i is mid pl → Took bits (bitOf pl) shift (half + i) mid is′ ql
+      → Appending bits half n shift start 2 was is′ (bitOf ql) (i + 1)
+  unfolding parts pairs upTo every numbers
+  next-two u t r =
+      let k : 2 * half ≤ length is = omega (arith, u .same) in
+      let e : (n - i) * 2 ≡ suc (suc ((n - (i + 1)) * 2)) = omega arith in
+      let x : ℤ = extended shift (getD is i (pos 0)) (num (take shift (drop p bits))) in
+      let y : ℤ = extended shift (getD is (half + i) (pos 0)) (num (take shift (drop (p + shift) bits))) in
+      let other : half + i ≡ i → ⊥ = λ a. omega arith in
+      let v : Appending bits half n shift start 2 was (set (set is i x) (half + i) y) (p + shift + shift) (i + 1) = record {
+        same = simp length-set (u .same);
+        place = omega (arith, place-next start shift i 2 (u .place));
+        goes =
+            turn-two half n is i h short k x y _ _
+            ∙ (rw (
+              e,
+              drop-drop shift p bits,
+              drop-drop shift (p + shift) bits,
+              low-next half n is i h short k x y,
+              high-next half n is i h short k x y,
+            ) at (u .goes));
+      } in
+      rw (r .sample, r .after, t .sample, t .after, getD-set-other is i (half + i) x (pos 0) other) v
 
-  module _ (w : ℕ) (was is : List ℤ) (p i : ℕ) (a : Appendable bits start half n w shift was) (u : Appending w was is p i) (h : i < n) where
-    -- the bits of this turn are there
-    turn-there : p + shift * w ≤ length bits
-    turn-there =
-        omega (arith, place-next start shift i w (u .place), mul-le-mul-left shift (mul-le-mul-right {m = i + 1} {n = n} w (omega arith)), a .there)
+module _
+    {bits : List ℕ} {half n shift start w : ℕ} {was is : List ℤ} {p i : ℕ}
+    (a : Appendable bits start half n w shift was) (u : Appending bits half n shift start w was is p i) (h : i < n) where
+  -- the bits of this turn are there
+  turn-there : p + shift * w ≤ length bits
+  turn-there =
+      omega (arith, place-next start shift i w (u .place), mul-le-mul-left shift (mul-le-mul-right {m = i + 1} {n = n} w (omega arith)), a .there)
 
-    pub first-there : p + shift ≤ length bits
-    first-there = omega (arith, turn-there, mul-le-mul-left {m = 1} {n = w} shift (a .some))
+  pub first-there : p + shift ≤ length bits
+  first-there = omega (arith, turn-there, mul-le-mul-left {m = 1} {n = w} shift (a .some))
 
-    pub second-there : w ≡ 2 → {mid : List ℤ} {k : ℕ} {pl : Place} → Took bits p shift k is mid pl → bitOf pl + shift ≤ length bits
-    second-there e t = rw (t .after) (omega (arith, rw e at turn-there))
+  pub second-there : w ≡ 2 → {mid : List ℤ} {k : ℕ} {pl : Place} → Took bits p shift k is mid pl → bitOf pl + shift ≤ length bits
+  second-there e t = rw (t .after) (omega (arith, rw e at turn-there))
 
-    pub appending-one : (w ≡ 2 → ⊥) → {is′ : List ℤ} {pl : Place} → Took bits p shift i is is′ pl → Appending w was is′ (bitOf pl) (i + 1)
-    appending-one other {is′} {pl} t =
-        let e : w ≡ 1 = omega (arith, a .some, a .two) in
-        rw e (next-one was is p i h (a .short) (a .room) is′ pl (rw e at u) t)
+  pub appending-one : (w ≡ 2 → ⊥) → {is′ : List ℤ} {pl : Place} → Took bits p shift i is is′ pl
+      → Appending bits half n shift start w was is′ (bitOf pl) (i + 1)
+  appending-one other t =
+      let e : w ≡ 1 = omega (arith, a .some, a .two) in
+      rw e (next-one h (a .short) (a .room) (rw e at u) t)
 
-    pub appending-two : w ≡ 2 → {mid is′ : List ℤ} {pl ql : Place} → Took bits p shift i is mid pl → Took bits (bitOf pl) shift (half + i) mid is′ ql
-        → Appending w was is′ (bitOf ql) (i + 1)
-    appending-two e {mid} {is′} {pl} {ql} t r = rw e (next-two was is p i h (a .short) (a .room) mid is′ pl ql (rw e at u) t r)
+  pub appending-two : w ≡ 2 → {mid is′ : List ℤ} {pl ql : Place}
+      → Took bits p shift i is mid pl → Took bits (bitOf pl) shift (half + i) mid is′ ql
+      → Appending bits half n shift start w was is′ (bitOf ql) (i + 1)
+  appending-two e t r = rw e (next-two h (a .short) (a .room) (rw e at u) t r)
 
-  pub appending-done : (w : ℕ) (was is : List ℤ) (p i : ℕ) → Appendable bits start half n w shift was → Appending w was is p i → n ≤ i
-      → is ≡ withParts half (allExtended w was) was
+module _ {bits : List ℕ} {half n shift start : ℕ} {was is : List ℤ} {p i : ℕ} where
+  pub appending-done : (w : ℕ) → Appendable bits start half n w shift was → Appending bits half n shift start w was is p i → n ≤ i
+      → is ≡ withParts half (allExtended bits half n shift start w was) was
   unfolding parts pairs upTo withParts
-  appending-done zero was is p i a u h = absurd (omega (arith, a .some))
-  appending-done (suc zero) was is p i a u h =
+  appending-done zero a u h = absurd (omega (arith, a .some))
+  appending-done (suc zero) a u h =
       let k : half ≤ length is = omega (arith, u .same, a .room) in
       rw (none-left half n is i h, all-done half n is i h (a .short) k, take-append-drop) at (u .goes)
-  appending-done (suc (suc zero)) was is p i a u h =
+  appending-done (suc (suc zero)) a u h =
       let k : half ≤ length is = omega (arith, u .same, a .room) in
       let l : half ≤ length (drop half is) = simp length-drop (omega (arith, u .same, a .room)) in
       rw (
@@ -259,4 +282,4 @@ module _ (bits : List ℕ) (half n shift start : ℕ) where
         take-append-drop,
         take-append-drop,
       ) at (u .goes)
-  appending-done (suc (suc (suc w))) was is p i a u h = absurd (omega (arith, a .two))
+  appending-done (suc (suc (suc w))) a u h = absurd (omega (arith, a .two))

@@ -52,7 +52,7 @@ fn extend(x: i32, shift: u32, extra: u32) -> i32
     wrapping_add_i32(high, low)
 }
 
-// The sample at `k` takes in its extra bits, which lie at `at`.
+// The sample at `k` takes in its extra bits. They lie at `at`, so the read is never short.
 fn append_at(packet: &[u8], at: Place, scratch: &mut [i32], k: usize, shift: u32) -> Place
     requires { ⌜ Takes (bitsOf (now packet)) (bitOf at) shift k (now scratch) ⌝ }
     ensures { λ r. ⌜ Took (bitsOf (now (packet .entry))) (bitOf at) shift k (now (scratch .entry)) (now (scratch .exit)) r ⌝ }
@@ -61,12 +61,21 @@ fn append_at(packet: &[u8], at: Place, scratch: &mut [i32], k: usize, shift: u32
     let Got::Value(extra, next) = got else {
         return at;
     };
-    scratch[k] = extend(scratch[k], shift, extra);
+    let sample = extend(scratch[k], shift, extra);
+    scratch[k] = sample;
     next
 }
 
 // Extra bits lie sample by sample, a pair's first channel before its second.
-pub fn append_extra_bits(packet: &[u8], start: Place, scratch: &mut [i32], half: usize, n: usize, channels: usize, shift: u32)
+pub fn append_extra_bits(
+    packet: &[u8],
+    start: Place,
+    scratch: &mut [i32],
+    half: usize,
+    n: usize,
+    channels: usize,
+    shift: u32,
+)
     requires { ⌜ Appendable (bitsOf (now packet)) (bitOf start) half n channels shift (now scratch) ⌝ }
     ensures { λ _. ⌜ now (scratch .exit) ≡ withParts half (pairs (pairs (extended shift)) (parts half n channels (now (scratch .entry))) (lanes channels (numbers (n * channels) shift (drop (bitOf start) (bitsOf (now (packet .entry))))))) (now (scratch .entry)) ⌝ }
 {

@@ -19,7 +19,7 @@ use Rattle.rice.specs.declared.Took.the-variants.{Sample, Refused}
 use Rattle.rice.specs.Steps.{placeIn, afterRun, toldStep, KeptIn, Takes}
 
 -- the place of a short read
-pub short-place : {g : Got} {pl ql : Place} → g ≡ Short pl → ql ≡ placeIn g → ql ≡ pl
+short-place : {g : Got} {pl ql : Place} → g ≡ Short pl → ql ≡ placeIn g → ql ≡ pl
 unfolding placeIn
 short-place k e = e ∙ ap placeIn k
 

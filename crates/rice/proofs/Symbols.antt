@@ -12,7 +12,7 @@ use borrow.Author.Tests.{eq-eqb, ne-eqb}
 use Rattle.rules.specs.declared.Place.{Place}
 use Rattle.rules.specs.Answers.{Ans, got, bad, pick, bind, answered, Read, _>>=_, give}
 use Rattle.rules.specs.Bits.{bitOf, field}
-use Rattle.rules.specs.Symbol.{ones, rest, symbol}
+use Rattle.rules.specs.Symbol.{ones, rest}
 use Rattle.bitcursor.specs.declared.Got.{Got}
 use Rattle.bitcursor.specs.declared.Got.the-variants.{Value, Short}
 use Rattle.bitcursor.specs.Reads.{told, Plain, Reads}

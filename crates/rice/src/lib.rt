@@ -5,7 +5,7 @@ ghost use lib.IntN.{pos};
 ghost use lib.ListN.{length, replicate};
 ghost use Rattle.rules.specs.Bits.{bitOf, bitsOf};
 ghost use Rattle.rules.specs.Symbol.{ones, symbol};
-ghost use Rattle.rules.specs.Rice.{symbolK, symbolM, runK, runM, historyAfter, afterValue, sample, rice};
+ghost use Rattle.rules.specs.Rice.{symbolK, symbolM, runK, historyAfter, afterValue, sample, rice};
 ghost use Rattle.bitcursor.specs.Reads.{Reads, Reaches};
 ghost use Rattle.rice.specs.Promise.{Sizes, Coded, Decompressed};
 ghost use Rattle.rice.specs.Steps.{Tracked, Running, Ready, placeIn, residualsOf, afterRun, Takes};
@@ -102,7 +102,7 @@ fn place_of(got: Got) -> Place
 }
 
 // The log2 of 3 or more is at least 1.
-fn symbol_k(kb: u32, h: u32) -> u32
+pub fn symbol_k(kb: u32, h: u32) -> u32
     ensures { λ r. ⌜ r ≡ symbolK kb h ⌝ }
 {
     let k = 31 - u32::leading_zeros((h >> 9) + 3);
@@ -112,7 +112,7 @@ fn symbol_k(kb: u32, h: u32) -> u32
     k
 }
 
-fn symbol_m(k: u32) -> u32
+pub fn symbol_m(k: u32) -> u32
     requires { ⌜ k < 32 ⌝ }
     ensures { λ r. ⌜ r ≡ symbolM k ⌝ }
 {
@@ -120,14 +120,15 @@ fn symbol_m(k: u32) -> u32
 }
 
 // Up to 8, for h = 0.
-fn run_k(h: u32) -> u32
+pub fn run_k(h: u32) -> u32
     requires { ⌜ h < 128 ⌝ }
     ensures { λ r. ⌜ r ≡ runK h ⌝ }
 {
-    u32::leading_zeros(h) - 24 + ((h + 16) >> 6)
+    let k = u32::leading_zeros(h) - 24 + ((h + 16) >> 6);
+    k
 }
 
-fn next_history(factor: u32, h: u32, v: u32) -> u32
+pub fn next_history(factor: u32, h: u32, v: u32) -> u32
     requires { ⌜ Tracked factor h ⌝ }
     ensures { λ r. ⌜ r ≡ historyAfter factor h v ⌝ }
 {

@@ -2,13 +2,14 @@
 use Prim.Native.Nat.{_≤_, _-_}
 use native.Mathlib.Omega.{arith}
 use native.Mathlib.Nat.{le-refl}
-use mathlib.Core.Path.{_≡_, refl}
+use mathlib.Core.Path.{_≡_, refl, sym, _∙_}
 use lib.ListN.{length, getD, take, length-set}
 use lib.Seq.{take-set-le}
 use lib.IntN.{pos}
 use mir.Syntax.{w32}
 use mir.Val.{toZ, ofZ}
-use Rattle.rules.specs.Prediction.{next}
+use Rattle.rules.specs.Words.{add32}
+use Rattle.rules.specs.Prediction.{forecast, next}
 use Rattle.words.proofs.Laws.{held32}
 use Rattle.lpc.proofs.Steps.{next-later, Going, going-start, going-next, going-done}
 use borrow.Author.Needs.{needs}
@@ -68,14 +69,14 @@ loop-again c =
     let cs = k .loop .lpc-coefs in
     let x = toZ w32 (ofZ w32 (e .sign-extend .result)) in
     let v-is : toZ w32 (ofZ w32 (getD buf i (pos 0))) ≡ getD buf i (pos 0) = held32 (getD buf i (pos 0)) (v .error .given) in
+    let f-is : toZ w32 (ofZ w32 (f .forecast-at .result)) ≡ forecast (a .args .lpc-quant) (take i buf) cs =
+    held32 (f .forecast-at .result) (f .forecast-at .ok) ∙ f .forecast-at .ensures in
+    let w-is : toZ w32 (ofZ w32 (w .wrapping-add-i32 .result)) ≡ add32 (forecast (a .args .lpc-quant) (take i buf) cs) (getD buf i (pos 0)) =
+    held32 (w .wrapping-add-i32 .result) (w .wrapping-add-i32 .ok) ∙ (rw (f-is, v-is) at (w .wrapping-add-i32 .ensures)) in
     let x-is : x ≡ next (a .args .bps) (a .args .lpc-quant) (take i buf) cs (getD buf i (pos 0)) =
-    cc (
-      held32 (e .sign-extend .result) (e .sign-extend .ok),
-      held32 (w .wrapping-add-i32 .result) (w .wrapping-add-i32 .ok),
-      held32 (f .forecast-at .result) (f .forecast-at .ok),
-      v-is,
-      next-later (a .args .lpc-quant) i buf cs (omega arith) (a .args .bps) (getD buf i (pos 0)) (omega arith),
-    ) in
+    held32 (e .sign-extend .result) (e .sign-extend .ok)
+    ∙ (rw w-is at (e .sign-extend .ensures))
+    ∙ sym (next-later (a .args .lpc-quant) i buf cs (omega arith) (a .args .bps) (getD buf i (pos 0)) (omega arith)) in
     let cs-are = rw (take-set-le i buf i x (le-refl i), v-is) at (c .before .adapt-at .ensures) in (
       omega arith,
       simp length-set (omega arith),

@@ -64,13 +64,13 @@ loop-again c =
     let k = u .before .before .before .before in
     let buf = k .loop .buf in
     let i = k .loop .i in
-    let x-is : toZ w32 (ofZ w32 (c .sign-extend .result)) ≡ wrap (k .before .args .bps) (add32 (getD buf (i - 1) (pos 0)) (getD buf i (pos 0))) =
-    cc (
-      held32 (c .sign-extend .result) (c .sign-extend .ok),
-      held32 (u .wrapping-add-i32 .result) (u .wrapping-add-i32 .ok),
-      held32 (getD buf (i - 1) (pos 0)) (u .before .before .wrapping-add-i32-arg .given),
-      held32 (getD buf i (pos 0)) (u .before .wrapping-add-i32-arg2 .given),
-    ) in
+    let last = getD buf (i - 1) (pos 0) in
+    let e = getD buf i (pos 0) in
+    let sum-is : toZ w32 (ofZ w32 (u .wrapping-add-i32 .result)) ≡ add32 last e =
+    held32 (u .wrapping-add-i32 .result) (u .wrapping-add-i32 .ok)
+    ∙ (rw (held32 last (u .before .before .wrapping-add-i32-arg .given), held32 e (u .before .wrapping-add-i32-arg2 .given)) at (u .wrapping-add-i32 .ensures)) in
+    let x-is : toZ w32 (ofZ w32 (c .sign-extend .result)) ≡ wrap (k .before .args .bps) (add32 last e) =
+    held32 (c .sign-extend .result) (c .sign-extend .ok) ∙ (rw sum-is at (c .sign-extend .ensures)) in
     (omega arith, simp length-set (omega arith), summed-on (k .before .args .bps) i buf _ (omega arith) x-is ∙ k .loop .inv .2)
 
 same-length : tie.Need-same-length Inv-loop μ-loop

@@ -1,9 +1,13 @@
 -- The code has the terms of the rule `errorLeft`.
 use Prim.Native.Nat.{_+_}
+use mathlib.Core.Path.{_≡_, _∙_}
+use lib.IntN.{pos}
+use mir.Val.{toZ, ofZ}
 use native.Mathlib.Omega.{arith}
 use mir.Syntax.{w32}
 use mir.Facts.{toZ-pos}
 use Rattle.words.proofs.Laws.{held32}
+use Rattle.rules.specs.Words.{mul32, shiftRight}
 use Rattle.rules.specs.Prediction.{errorLeft}
 use borrow.Author.Needs.{needs}
 use Rattle.lpc.proofs.next_error.Statement.{statement}
@@ -38,18 +42,23 @@ returns c =
     let h = g .before in
     let p = h .before in
     let a = p .before in
-    cc (
-      held32 (a .args .d) (a .fits .d .sfits),
-      held32 (a .args .t) (a .fits .t .sfits),
-      held32 (a .args .error-sign) (a .fits .error-sign .sfits),
-      held32 (a .args .error) (a .fits .error .sfits),
-      toZ-pos w32 {n = a .args .j + 1} (omega arith),
-      held32 (p .wrapping-mul-i32 .result) (p .wrapping-mul-i32 .ok),
-      held32 (h .shift-down .result) (h .shift-down .ok),
-      held32 (g .wrapping-mul-i322 .result) (g .wrapping-mul-i322 .ok),
-      held32 (n .wrapping-mul-i323 .result) (n .wrapping-mul-i323 .ok),
-      held32 (c .wrapping-sub-i32 .result) (c .wrapping-sub-i32 .ok),
-    )
+    let d = a .args .d in
+    let t = a .args .t in
+    let s = a .args .error-sign in
+    let loss = shiftRight (mul32 d t) (a .args .lpc-quant) in
+    let p-is : toZ w32 (ofZ w32 (p .wrapping-mul-i32 .result)) ≡ mul32 d t =
+    held32 (p .wrapping-mul-i32 .result) (p .wrapping-mul-i32 .ok)
+    ∙ (rw (held32 d (a .fits .d .sfits), held32 t (a .fits .t .sfits)) at (p .wrapping-mul-i32 .ensures)) in
+    let h-is : toZ w32 (ofZ w32 (h .shift-down .result)) ≡ loss =
+    held32 (h .shift-down .result) (h .shift-down .ok) ∙ (rw p-is at (h .shift-down .ensures)) in
+    let g-is : toZ w32 (ofZ w32 (g .wrapping-mul-i322 .result)) ≡ mul32 s loss =
+    held32 (g .wrapping-mul-i322 .result) (g .wrapping-mul-i322 .ok)
+    ∙ (rw (h-is, held32 s (a .fits .error-sign .sfits)) at (g .wrapping-mul-i322 .ensures)) in
+    let n-is : toZ w32 (ofZ w32 (n .wrapping-mul-i323 .result)) ≡ mul32 (mul32 s loss) (pos (a .args .j + 1)) =
+    held32 (n .wrapping-mul-i323 .result) (n .wrapping-mul-i323 .ok)
+    ∙ (rw (g-is, toZ-pos w32 {n = a .args .j + 1} (omega arith)) at (n .wrapping-mul-i323 .ensures)) in
+    held32 (c .wrapping-sub-i32 .result) (c .wrapping-sub-i32 .ok)
+    ∙ (rw (n-is, held32 (a .args .error) (a .fits .error .sfits)) at (c .wrapping-sub-i32 .ensures))
 
 pub next-error-spec : {M : Type 1} → statement M
 next-error-spec =

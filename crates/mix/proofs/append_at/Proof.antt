@@ -33,11 +33,11 @@ slice-copy-out-extend c = search needs
 extend-requires : tie.Need-extend-requires
 extend-requires c κs = search needs
 
-mul-t13 : tie.Need-mul-t13
-mul-t13 c = search needs
+mul-sample : tie.Need-mul-sample
+mul-sample c = search needs
 
-slice-set-from-scratch : tie.Need-slice-set-from-scratch
-slice-set-from-scratch c = search needs
+slice-set-from-sample : tie.Need-slice-set-from-sample
+slice-set-from-sample c = search needs
 
 same-length : tie.Need-same-length
 same-length c = search needs
@@ -60,7 +60,7 @@ append-at-spec =
     mul-extend
     slice-copy-out-extend
     extend-requires
-    mul-t13
-    slice-set-from-scratch
+    mul-sample
+    slice-set-from-sample
     same-length
     returns-2)

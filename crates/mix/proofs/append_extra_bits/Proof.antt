@@ -28,7 +28,7 @@ append-at-requires c κs =
     record {
       inside = omega (arith, k .loop .inv .same, a .room, a .short);
       few = a .few;
-      there = first-there _ _ _ _ _ _ _ _ _ _ a (k .loop .inv) (omega arith);
+      there = first-there a (k .loop .inv) (omega arith);
     }
 
 append-at-requires-2 : tie.Need-append-at-requires-2 Inv-loop μ-loop
@@ -39,7 +39,7 @@ append-at-requires-2 c κs =
     record {
       inside = rw (t .sample, length-set) (omega (arith, k .loop .inv .same, a .room, a .short));
       few = a .few;
-      there = second-there _ _ _ _ _ _ _ _ _ _ a (k .loop .inv) (omega arith) (c .before .if1 .taken) t;
+      there = second-there a (k .loop .inv) (omega arith) (c .before .if1 .taken) t;
     }
 
 add-i : tie.Need-add-i Inv-loop μ-loop
@@ -55,8 +55,8 @@ loop-again c =
     let l = c .before .before .before .before .loop-test .taken in
     let t = c .before .before .append-at .ensures in
     ⊎-elim
-    (λ w. rw (w .4, w .5) (appending-two _ _ _ _ _ _ _ _ _ _ a (k .loop .inv) l (w .0 .taken) t (w .2 .ensures)))
-    (λ w. rw (w .1, w .2) (appending-one _ _ _ _ _ _ _ _ _ _ a (k .loop .inv) l (w .0 .left) t))
+    (λ w. rw (w .4, w .5) (appending-two a (k .loop .inv) l (w .0 .taken) t (w .2 .ensures)))
+    (λ w. rw (w .1, w .2) (appending-one a (k .loop .inv) l (w .0 .left) t))
     (c .if1 .came)
 
 same-length : tie.Need-same-length Inv-loop μ-loop
@@ -65,7 +65,7 @@ same-length c = c .before .loop .inv .same
 returns : tie.Need-returns Inv-loop μ-loop
 returns c =
     let k = c .before in
-    appending-done _ _ _ _ _ _ _ _ _ _ (k .before .before .pre) (k .loop .inv) (c .loop-test .left)
+    appending-done _ (k .before .before .pre) (k .loop .inv) (c .loop-test .left)
 
 pub append-extra-bits-spec : {M : Type 1} → statement M
 append-extra-bits-spec =

@@ -1,6 +1,5 @@
 -- The shifted sample and the extra bits are wrapped once more when they are summed, which changes nothing.
 use Prim.Native.Nat.{_^_}
-use mathlib.Core.Path.{_≡_, _∙_}
 use borrow.Author.Needs.{needs}
 use lib.Dec.{lit≤}
 use lib.IntN.{pos, _*ℤ_}

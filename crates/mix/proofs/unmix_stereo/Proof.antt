@@ -1,5 +1,5 @@
 -- Each turn makes one sample of left and right; what is done and what the rule makes of the rest is what it makes of all.
-use Prim.Native.Nat.{ℕ, _+_, _-_}
+use Prim.Native.Nat.{_+_, _-_}
 use mathlib.Core.Path.{_≡_, _∙_}
 use native.Mathlib.Omega.{arith}
 use borrow.Author.Needs.{needs}
@@ -90,7 +90,7 @@ loop-again : tie.Need-loop-again Inv-loop μ-loop
 loop-again c =
     let k = at c in
     let a = k .before in
-    unmixing-next _ _ _ _ _ _ _ (a .pre .short) (a .pre .room) (k .loop .inv) (c .before .before .before .before .loop-test .taken) (l-is c) (r-is c)
+    unmixing-next (a .pre .short) (a .pre .room) (k .loop .inv) (c .before .before .before .before .loop-test .taken) (l-is c) (r-is c)
 
 same-length : tie.Need-same-length Inv-loop μ-loop
 same-length c = c .before .loop .inv .same
@@ -99,7 +99,7 @@ returns : tie.Need-returns Inv-loop μ-loop
 returns c =
     let k = c .before in
     let a = k .before in
-    rw (held32 (a .args .mix-res) (a .fits .mix-res .sfits)) at (unmixing-done _ _ _ _ _ _ _ (a .pre .short) (a .pre .room) (k .loop .inv) (c .loop-test .left))
+    rw (held32 (a .args .mix-res) (a .fits .mix-res .sfits)) at (unmixing-done (a .pre .short) (a .pre .room) (k .loop .inv) (c .loop-test .left))
 
 pub unmix-stereo-spec : {M : Type 1} → statement M
 unmix-stereo-spec =

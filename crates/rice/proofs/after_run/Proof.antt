@@ -1,8 +1,7 @@
 -- `after_run` meets its contract: its symbol is the rules', and a law for each return.
-use Prim.Native.Nat.{_^_, _-_, _≤_, _<_}
-use mathlib.Core.Path.{_≡_}
+use Prim.Native.Nat.{_^_, _-_, _≤_}
 use native.Mathlib.Omega.{arith}
-use lib.Bits.{bitAnd, and-le-l}
+use lib.Bits.{and-le-l}
 use lib.Pow.{pow-mono}
 use Rattle.rules.specs.Bits.{bitOf, bitsOf}
 use Rattle.rules.specs.Symbol.{symbol}

@@ -1,10 +1,6 @@
 -- `after_value` meets its contract: a run follows or none does.
-use Prim.Native.Nat.{_≤_}
-use mathlib.Core.Path.{_≡_, refl}
-use mathlib.Core.Bool.{false}
 use mathlib.Core.Logic.{⊎-elim}
 use borrow.Author.Tests.{le-ltb, lt-ltb}
-use Rattle.rules.specs.Rice.{runFollows}
 use Rattle.rice.proofs.Samples.{value-run, value-alone}
 use borrow.Author.Needs.{needs}
 use Rattle.rice.proofs.after_value.Statement.{statement}

@@ -1,10 +1,9 @@
 -- `clear` meets its contract. The loop's invariant: the first places are zero.
-use Prim.Native.Nat.{ℕ, _+_, _-_, _≤_}
+use Prim.Native.Nat.{ℕ, _-_, _≤_}
 use mathlib.Core.Path.{_≡_, refl, sym, ap, _∙_}
-use mathlib.Core.List.{List, _++_}
 use native.Mathlib.Omega.{arith}
 use native.Mathlib.Numerals.{add-one}
-use lib.IntN.{ℤ, pos}
+use lib.IntN.{pos}
 use lib.ListN.{length, take, replicate, length-set, replicate-append-replicate}
 use lib.Seq.{take-suc-set, take-all}
 use borrow.Author.Needs.{needs}

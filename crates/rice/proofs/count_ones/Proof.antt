@@ -1,11 +1,11 @@
 -- `count_ones` meets its contract. The loop's invariant: the ones counted and those to come are the ones from the start.
-use Prim.Native.Nat.{ℕ, _-_, _%_, _≤_, _<_}
-use mathlib.Core.Path.{_≡_, refl, sym, ap, _∙_}
+use Prim.Native.Nat.{_-_, _%_, _≤_, _<_}
+use mathlib.Core.Path.{_≡_, sym, _∙_}
 use native.Mathlib.Omega.{arith}
 use Rattle.rules.specs.Bits.{bitOf, bitsOf}
 use Rattle.rules.specs.Symbol.{ones}
 use Rattle.bitcursor.specs.Reads.{told, Plain}
-use Rattle.bitcursor.proofs.Laws.{value-of, short-of, plain-of}
+use Rattle.bitcursor.proofs.Laws.{plain-of}
 use Rattle.rice.proofs.Symbols.{onesFrom, ones-start, ones-full, ones-cut, ones-end, ones-next}
 use borrow.Author.Needs.{needs}
 use Rattle.rice.proofs.count_ones.Statement.{statement}

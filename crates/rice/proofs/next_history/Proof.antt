@@ -1,10 +1,9 @@
 -- `next_history` meets its contract: both products fit a word, and less is taken away than there is.
-use Prim.Native.Nat.{_*_, _≤_, _<_, _^_}
+use Prim.Native.Nat.{_*_, _≤_}
 use native.Mathlib.Omega.{arith}
 use native.Mathlib.Nat.{mul-le-mul, mul-le-mul-left}
 use borrow.Author.Tests.{le-ltb, lt-ltb}
 use Rattle.rules.specs.Rice.{historyAfter}
-use borrow.Author.Needs.{needs}
 use Rattle.rice.proofs.next_history.Statement.{statement}
 use Rattle.rice.proofs.next_history.Tie as tie
 
@@ -14,7 +13,7 @@ sizes c =
     let a = c .before .args in
     let h : a .h ≤ 33554431 = omega (arith, c .before .pre) in
     let f : a .factor ≤ 127 = c .before .pre .factor-le in
-    let v : a .v ≤ 65535 = c .if1 .left in
+    let v : a .v ≤ 65535 = omega (arith, c .if1 .left) in
     (mul-le-mul h f, mul-le-mul v f, mul-le-mul-left (a .h) f)
 
 returns : tie.Need-returns

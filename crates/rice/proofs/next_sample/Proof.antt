@@ -64,7 +64,7 @@ after-value-requires c κs =
     let g = c .before .before in
     let d = g .before .before in
     let t = d .before .before .before .before in
-    record { coded = t .pre .coded; history-lt = t .pre .history-lt; plain = plain-of (d .decode-rice-symbol .ensures) (g .got .given .1) }
+    record { coded = t .pre .coded; history-lt = t .pre .history-lt; plain = plain-of (read d) (g .got .given .1) }
 
 returns-2 : tie.Need-returns-2
 returns-2 c =

@@ -8,19 +8,19 @@ use borrow.Author.Needs.{needs}
 use Rattle.rice.proofs.run_k.Statement.{statement}
 use Rattle.rice.proofs.run_k.Tie as tie
 
-sub-result : tie.Need-sub-result
-sub-result c = leading-small (c .args .h) (c .pre)
+sub-k : tie.Need-sub-k
+sub-k c = leading-small (c .args .h) (c .pre)
 
-add-result : tie.Need-add-result
-add-result c = search needs
+add-k : tie.Need-add-k
+add-k c = search needs
 
-add-result-2 : tie.Need-add-result-2
+add-k-2 : tie.Need-add-k-2
 unfolding runK
-add-result-2 c = omega (arith, runK-range (c .args .h) (c .pre))
+add-k-2 c = omega (arith, runK-range (c .args .h) (c .pre))
 
 returns : tie.Need-returns
 unfolding runK
 returns c = refl
 
 pub run-k-spec : {M : Type 1} → statement M
-run-k-spec = tie.close (tie.spec sub-result add-result add-result-2 returns)
+run-k-spec = tie.close (tie.spec sub-k add-k add-k-2 returns)

@@ -1,0 +1,2 @@
+-- What this crate requires and promises.
+pub mod Sent
