@@ -30,7 +30,7 @@ place-plain {pl} h = plain (pl .byte) (pl .bit) h
         let k : bit ≡ (byte * 8 + bit % 8) % 8 = omega arith in
         cc
 
-place-same : {pl ql : Place} → pl .bit < 8 → ql .bit < 8 → bitOf pl ≡ bitOf ql → pl ≡ ql
+pub place-same : {pl ql : Place} → pl .bit < 8 → ql .bit < 8 → bitOf pl ≡ bitOf ql → pl ≡ ql
 place-same h k e = place-plain h ∙ ap placeOf e ∙ sym (place-plain k)
 
 -- ---- reads and skips of the rules

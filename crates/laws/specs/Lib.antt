@@ -14,5 +14,6 @@ pub mod Writer
 pub mod Walk
 pub mod Packet
 pub mod Shape
+pub mod Reader
 pub mod Round
 pub mod Bench

@@ -110,7 +110,7 @@ module _ (bits : List ℕ) (s : StreamInfo) where
   tagged-goes = tagged-kept bits bits s (Goes bits bits 0 refl (omega arith) s) (goes bits bits 0 refl (omega arith) s)
 
   -- an element takes 3 bits at least, and ends in the packet
-  turn-grows : (so-far : ℕ) (m : Samples) (p : ℕ) {t : Turn} {q : ℕ} → turn bits s so-far m p ≡ got t q → (p + 3 ≤ q) × (q ≤ length bits)
+  pub turn-grows : (so-far : ℕ) (m : Samples) (p : ℕ) {t : Turn} {q : ℕ} → turn bits s so-far m p ≡ got t q → (p + 3 ≤ q) × (q ≤ length bits)
   unfolding turn bind within Grows
   turn-grows so-far m p {t} {q} e = go (leb (p + 3) (length bits)) refl e
     where

@@ -40,20 +40,20 @@ module _ {A : Type 0} where
   all-pick P false h g = g
 
 module _ {A B : Type 0} {P : A → Type 0} {Q : B → Type 0} (k : A → Read B) where
-  all-bind : {a : Ans A} → All P a → ((v : A) → P v → (p : ℕ) → All Q (k v p)) → All Q (bind a k)
+  pub all-bind : {a : Ans A} → All P a → ((v : A) → P v → (p : ℕ) → All Q (k v p)) → All Q (bind a k)
   unfolding bind
   all-bind (of-got {a = a} {p = p} h) f = f a h p
   all-bind of-bad f = of-bad
 
 -- nothing is said of the value
-abbrev Any : {A : Type 0} → A → Type 0
+abbrev pub Any : {A : Type 0} → A → Type 0
 Any a = Unit {0}
 
-all-any : {A : Type 0} (a : Ans A) → All Any a
+pub all-any : {A : Type 0} (a : Ans A) → All Any a
 all-any (got a p) = of-got tt
 all-any (bad x p) = of-bad
 
-check-holds : (t : Bool) (x : Refusal) (p : ℕ) → All (λ u. t ≡ true) (check t x p)
+pub check-holds : (t : Bool) (x : Refusal) (p : ℕ) → All (λ u. t ≡ true) (check t x p)
 check-holds true x p = of-got refl
 check-holds false x p = of-bad
 

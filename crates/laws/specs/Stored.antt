@@ -81,7 +81,7 @@ module _ {A : Type 0} where
   stored-none c j ([] ∷ chans) out (one l a) = stored-none c (suc j) chans out a
   stored-none c j ((x ∷ xs) ∷ chans) out (one l a) = absurd (omega arith)
 
-  tails-length : (chans : List (List A)) → length (tails chans) ≡ length chans
+  pub tails-length : (chans : List (List A)) → length (tails chans) ≡ length chans
   unfolding tails
   tails-length [] = refl
   tails-length ([] ∷ chans) = ap suc (tails-length chans)
@@ -96,13 +96,13 @@ module _ {A : Type 0} where
     stored-row c j ((x ∷ xs) ∷ chans) row rest (one e a) l h =
         rw (placed-row c j x xs row rest l (omega arith)) (stored-row c (suc j) chans (set row j x) (placed c j xs rest) a (length-set row j x ∙ l) (omega arith))
 
-    heads-length : (chans : List (List A)) → Every (λ l. length l ≡ suc n) chans → length (heads chans) ≡ length chans
+    pub heads-length : (chans : List (List A)) → Every (λ l. length l ≡ suc n) chans → length (heads chans) ≡ length chans
     unfolding heads
     heads-length [] a = refl
     heads-length ([] ∷ chans) (one e a) = absurd (omega arith)
     heads-length ((x ∷ xs) ∷ chans) (one e a) = ap suc (heads-length chans a)
 
-    tails-every : (chans : List (List A)) → Every (λ l. length l ≡ suc n) chans → Every (λ l. length l ≡ n) (tails chans)
+    pub tails-every : (chans : List (List A)) → Every (λ l. length l ≡ suc n) chans → Every (λ l. length l ≡ n) (tails chans)
     unfolding tails
     tails-every [] a = none
     tails-every ([] ∷ chans) (one e a) = absurd (omega arith)

@@ -1,0 +1,4 @@
+pub mod Laws
+pub mod RawLaws
+pub mod Finished
+pub mod Sounds

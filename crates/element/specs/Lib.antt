@@ -1,0 +1,4 @@
+pub mod Heard
+pub mod Fills
+pub mod Raw
+pub mod Finish

@@ -1,0 +1,348 @@
+// What stands before an audio element's sound: its header, and the plan of a compressed element.
+ghost use mathlib.Core.Path.{_≡_};
+ghost use Prim.Native.Nat.{_<_};
+ghost use Rattle.rules.specs.Answers.{answered, times};
+ghost use Rattle.rules.specs.Bits.{bitOf, bitsOf, field};
+ghost use Rattle.rules.specs.Element.{sampleNumber, header, params, paramsOk, planned};
+ghost use Rattle.header.specs.Told.{SamePlace, headerWith, SamplesAsked, HeaderTold, oldestFirst, noParameters, Settled, CoefsAsked, CoefsTold, ShortParameters, ParametersTold, paramsOf, OneOrTwo, ChannelsAsked, ChannelsTold, SettledPlan, planOf, allowed, refusedPlan, judgedPlan, PlanTold};
+use bitcursor::Got;
+use bitcursor::Reached;
+use bitcursor::read;
+use bitcursor::read_bit;
+use rules::Place;
+use rules::Refusal;
+use rules::StreamInfo;
+use words::coef_of;
+
+// Shift code, uncompressed bit and sample number.
+pub struct Header {
+    pub code: u32,
+    pub raw: u32,
+    pub samples: u32,
+}
+
+pub enum HeaderRead {
+    Known(Header, Place),
+    Refused(Refusal, Place),
+}
+
+// A channel's parameters. The first `order` coefficients count, the oldest sample's first; the others are zero.
+pub struct Parameters {
+    pub mode: u32,
+    pub quant: u32,
+    pub factor: u32,
+    pub order: u32,
+    pub coefs: [i16; 32],
+}
+
+// What a compressed element says before its Rice data. `mix_res` is its 8 bits; of one channel `second` is all zero.
+pub struct Plan {
+    pub mix_bits: u32,
+    pub mix_res: u32,
+    pub first: Parameters,
+    pub second: Parameters,
+}
+
+// The plan, all zero where it is refused.
+pub struct PlanRead {
+    pub answer: Reached,
+    pub plan: Plan,
+}
+
+struct CoefsRead {
+    answer: Reached,
+    coefs: [i16; 32],
+}
+
+struct ParametersRead {
+    answer: Reached,
+    parameters: Parameters,
+}
+
+struct ChannelsRead {
+    answer: Reached,
+    first: Parameters,
+    second: Parameters,
+}
+
+// The same place with a bit 0..7.
+fn plain(at: Place) -> Place
+    ensures { λ r. ⌜ SamePlace at r ⌝ }
+{
+    Place {
+        byte: at.byte,
+        bit: at.bit % 8,
+    }
+}
+
+// The sample number stands in a partial element; of any other it is the frame length.
+fn read_sample_number(
+    packet: &[u8],
+    s: StreamInfo,
+    at: Place,
+    partial: u32,
+    code: u32,
+    raw: u32,
+) -> HeaderRead
+    requires { ⌜ SamplesAsked at code ⌝ }
+    ensures { λ r. ⌜ HeaderTold (s .«frame_length») (answered (headerWith code raw) (sampleNumber (bitsOf (now (packet .entry))) s partial (bitOf at))) r ⌝ }
+{
+    if partial == 0 {
+        return HeaderRead::Known(
+            Header {
+                code: code,
+                raw: raw,
+                samples: s.frame_length,
+            },
+            at,
+        );
+    }
+    let Got::Value(samples, end) = read(packet, at, 32) else {
+        return HeaderRead::Refused(Refusal::Short, at);
+    };
+    if samples > s.frame_length {
+        return HeaderRead::Refused(Refusal::Partial, end);
+    }
+    HeaderRead::Known(
+        Header {
+            code: code,
+            raw: raw,
+            samples: samples,
+        },
+        end,
+    )
+}
+
+pub fn read_header(packet: &[u8], s: StreamInfo, at: Place) -> HeaderRead
+    ensures { λ r. ⌜ HeaderTold (s .«frame_length») (header (bitsOf (now (packet .entry))) s (bitOf at)) r ⌝ }
+{
+    let start = plain(at);
+    let Got::Value(_, at_unused) = read(packet, start, 4) else {
+        return HeaderRead::Refused(Refusal::Short, start);
+    };
+    let Got::Value(unused, at_partial) = read(packet, at_unused, 12) else {
+        return HeaderRead::Refused(Refusal::Short, at_unused);
+    };
+    if unused != 0 {
+        return HeaderRead::Refused(Refusal::Unused, at_partial);
+    }
+    let Got::Value(partial, at_code) = read_bit(packet, at_partial) else {
+        return HeaderRead::Refused(Refusal::Short, at_partial);
+    };
+    let Got::Value(code, at_raw) = read(packet, at_code, 2) else {
+        return HeaderRead::Refused(Refusal::Short, at_code);
+    };
+    if code > 2 {
+        return HeaderRead::Refused(Refusal::Shift, at_raw);
+    }
+    let Got::Value(raw, at_samples) = read_bit(packet, at_raw) else {
+        return HeaderRead::Refused(Refusal::Short, at_raw);
+    };
+    read_sample_number(packet, s, at_samples, partial, code, raw)
+}
+
+fn no_parameters() -> Parameters
+    ensures { λ r. ⌜ r ≡ noParameters ⌝ }
+{
+    Parameters {
+        mode: 0,
+        quant: 0,
+        factor: 0,
+        order: 0,
+        coefs: [0i16; 32],
+    }
+}
+
+// Coefficients are used in the other order than they are stored: the newest sample's comes first and goes last.
+fn read_coefs(packet: &[u8], start: Place, order: u32) -> CoefsRead
+    requires { ⌜ CoefsAsked start order ⌝ }
+    ensures { λ r. ⌜ CoefsTold (answered oldestFirst (times order (field (bitsOf (now (packet .entry))) 16) (bitOf start))) order (r .answer) (r .coefs) ⌝ }
+{
+    let mut coefs = [0i16; 32];
+    let mut left = order;
+    let mut at = start;
+    while 0 < left {
+        let Got::Value(v, next) = read(packet, at, 16) else {
+            return CoefsRead {
+                answer: Reached::Refused(Refusal::Short, at),
+                coefs: coefs,
+            };
+        };
+        let j = left - 1;
+        coefs[j as usize] = coef_of(v);
+        at = next;
+        left -= 1;
+    }
+    CoefsRead {
+        answer: Reached::At(at),
+        coefs: coefs,
+    }
+}
+
+fn short_parameters(at: Place) -> ParametersRead
+    ensures { λ r. ⌜ ShortParameters at (r .answer) (r .parameters) ⌝ }
+{
+    let none = no_parameters();
+    ParametersRead {
+        answer: Reached::Refused(Refusal::Short, at),
+        parameters: none,
+    }
+}
+
+fn read_parameters(packet: &[u8], s: StreamInfo, at: Place) -> ParametersRead
+    requires { ⌜ at .bit < 8 ⌝ }
+    ensures { λ r. ⌜ ParametersTold (params (bitsOf (now (packet .entry))) s (bitOf at)) (r .answer) (r .parameters) ⌝ }
+{
+    let Got::Value(mode, at_quant) = read(packet, at, 4) else {
+        return short_parameters(at);
+    };
+    let Got::Value(quant, at_factor) = read(packet, at_quant, 4) else {
+        return short_parameters(at_quant);
+    };
+    let Got::Value(pb_factor, at_order) = read(packet, at_factor, 3) else {
+        return short_parameters(at_factor);
+    };
+    let Got::Value(order, at_coefs) = read(packet, at_order, 5) else {
+        return short_parameters(at_order);
+    };
+    let filled = read_coefs(packet, at_coefs, order);
+    let answer = filled.answer;
+    let coefs = filled.coefs;
+    let factor = s.pb as u32 * pb_factor / 4;
+    ParametersRead {
+        answer: answer,
+        parameters: Parameters {
+            mode: mode,
+            quant: quant,
+            factor: factor,
+            order: order,
+            coefs: coefs,
+        },
+    }
+}
+
+// The parameters of one channel or two, the second all zero where there is one.
+fn read_channels(packet: &[u8], s: StreamInfo, at: Place, channels: u32) -> ChannelsRead
+    requires { ⌜ ChannelsAsked at channels ⌝ }
+    ensures { λ r. ⌜ ChannelsTold channels (times channels (params (bitsOf (now (packet .entry))) s) (bitOf at)) (r .answer) (r .first) (r .second) ⌝ }
+{
+    let none = no_parameters();
+    let one = read_parameters(packet, s, at);
+    let answer = one.answer;
+    let first = one.parameters;
+    let Reached::At(next) = answer else {
+        return ChannelsRead {
+            answer: answer,
+            first: first,
+            second: none,
+        };
+    };
+    if channels == 1 {
+        return ChannelsRead {
+            answer: answer,
+            first: first,
+            second: none,
+        };
+    }
+    let two = read_parameters(packet, s, next);
+    let last = two.answer;
+    let second = two.parameters;
+    ChannelsRead {
+        answer: last,
+        first: first,
+        second: second,
+    }
+}
+
+fn parameters_ok(c: Parameters) -> bool
+    requires { ⌜ Settled c ⌝ }
+    ensures { λ r. ⌜ r ≡ paramsOk (paramsOf c) ⌝ }
+{
+    if c.quant == 0 {
+        return false;
+    }
+    if c.order > 30 {
+        return false;
+    }
+    c.factor <= 127
+}
+
+fn plan_ok(plan: Plan, channels: u32) -> bool
+    requires { ⌜ SettledPlan plan ⌝ }
+    ensures { λ r. ⌜ r ≡ allowed channels (planOf channels plan) ⌝ }
+{
+    let first = plan.first;
+    let second = plan.second;
+    if !parameters_ok(first) {
+        return false;
+    }
+    if channels == 1 {
+        return true;
+    }
+    if !parameters_ok(second) {
+        return false;
+    }
+    if plan.mix_res == 0 {
+        return true;
+    }
+    plan.mix_bits <= 31
+}
+
+fn refused_plan(x: Refusal, at: Place) -> PlanRead
+    ensures { λ r. ⌜ r ≡ refusedPlan x at ⌝ }
+{
+    let none = no_parameters();
+    PlanRead {
+        answer: Reached::Refused(x, at),
+        plan: Plan {
+            mix_bits: 0,
+            mix_res: 0,
+            first: none,
+            second: none,
+        },
+    }
+}
+
+// Judged once the parameters of all channels are read.
+fn judged(plan: Plan, channels: u32, end: Place) -> PlanRead
+    requires { ⌜ SettledPlan plan ⌝ }
+    ensures { λ r. ⌜ r ≡ judgedPlan channels plan end ⌝ }
+{
+    let refused = refused_plan(Refusal::Parameters, end);
+    if !plan_ok(plan, channels) {
+        return refused;
+    }
+    PlanRead {
+        answer: Reached::At(end),
+        plan: plan,
+    }
+}
+
+pub fn read_plan(packet: &[u8], s: StreamInfo, at: Place, channels: u32) -> PlanRead
+    requires { ⌜ OneOrTwo channels ⌝ }
+    ensures { λ r. ⌜ PlanTold channels (planned (bitsOf (now (packet .entry))) s channels (bitOf at)) r ⌝ }
+{
+    let start = plain(at);
+    let Got::Value(mix_bits, at_res) = read(packet, start, 8) else {
+        return refused_plan(Refusal::Short, start);
+    };
+    let Got::Value(mix_res, at_channels) = read(packet, at_res, 8) else {
+        return refused_plan(Refusal::Short, at_res);
+    };
+    let both = read_channels(packet, s, at_channels, channels);
+    let answer = both.answer;
+    let first = both.first;
+    let second = both.second;
+    match answer {
+        Reached::Refused(x, end) => refused_plan(x, end),
+        Reached::At(end) => {
+            let plan = Plan {
+                mix_bits: mix_bits,
+                mix_res: mix_res,
+                first: first,
+                second: second,
+            };
+            judged(plan, channels, end)
+        }
+    }
+}
