@@ -1,7 +1,7 @@
-# make test: the gate. make readings: document 01's bench readings, run and compared.
+# make test: the gate. make readings: document 01's bench readings, run and compared. make compare: ours beside the original Rust.
 SHELL := /bin/bash
 
-.PHONY: test readings kit
+.PHONY: test readings compare kit
 
 test: kit
 	rt fmt --check
@@ -11,6 +11,12 @@ readings: kit
 	@rt check readings >target/readings.log 2>&1 || { cat target/readings.log; cat target/log/readings.stdout 2>/dev/null; exit 1; }
 	@cat target/log/readings.stdout
 
-# The Rattle kit is all that this repository needs beyond make and a POSIX shell.
+# Status 3 of oracle/build: no rustc, or no source of the original; it says so, and nothing is compared.
+CASES ?= 100000
+compare: kit
+	@oracle/build || { status=$$?; [ $$status -eq 3 ] && exit 0; exit $$status; }
+	@target/oracle/oracle compare $(CASES)
+
+# The Rattle kit is all that this repository needs beyond make and bash; `compare` takes rustc and the original's source too.
 kit:
 	@command -v rt >/dev/null 2>&1 || { echo "The command 'rt' is not here: install the Rattle kit and put its bin folder on PATH." >&2; exit 1; }

@@ -11,10 +11,6 @@ impl BitWriter {
         Self::default()
     }
 
-    pub fn len(&self) -> usize {
-        self.used
-    }
-
     pub fn bit(&mut self, bit: bool) {
         if self.used % 8 == 0 {
             self.bytes.push(0);
