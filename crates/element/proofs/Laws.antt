@@ -30,7 +30,7 @@ use Rattle.mix.specs.Halves.{parts, withParts}
 use Rattle.mix.proofs.Halves.{with-rest, parts-with, with-first, with-second}
 use Rattle.element.specs.Fills.{Laid, Fills}
 use Rattle.header.specs.declared.Parameters.{Parameters}
-use Rattle.header.specs.Told.{Allowed, paramsOf, channelsOf}
+use Rattle.header.specs.Told.{AllowedChannel, paramsOf, channelsOf}
 
 -- ---- one channel
 
@@ -63,7 +63,7 @@ module _ (b n : ℕ) (c : Params) where
   from-other (got d q) {p} e f g = let k : q ≡ p = cc in rw (ne-eqb (c .mode) 0 f, ne-eqb (c .mode) 15 g, k)
 
 -- an allowed channel's array has all its places
-pub coefs-length : {c : Parameters} → Allowed c → length (c .coefs) ≡ 32
+pub coefs-length : {c : Parameters} → AllowedChannel c → length (c .coefs) ≡ 32
 coefs-length {c} a =
     omega (arith, a .order-le, length-drop (c .order) (c .coefs), length-replicate (32 - c .order) (pos 0), ap length (a .settled .rest))
 

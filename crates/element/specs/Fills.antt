@@ -17,7 +17,7 @@ use Rattle.bitcursor.specs.Reads.{Reaches}
 use Rattle.mix.specs.Halves.{parts, withParts}
 use Rattle.header.specs.declared.Parameters.{Parameters}
 use Rattle.header.specs.declared.Plan.{Plan}
-use Rattle.header.specs.Told.{Allowed, AllowedPlan}
+use Rattle.header.specs.Told.{AllowedChannel, AllowedPlan}
 
 -- only the channels' own places changed; after a refusal nothing is said of the first 2 x half
 unfoldable pub Laid : ℕ → ℕ → ℕ → List ℤ → List ℤ → Reached → Type 0
@@ -42,7 +42,7 @@ pub record Roomy (half n w : ℕ) (scratch : List ℤ) : Type 0 where
 pub record Predictable (bps : ℕ) (c : Parameters) : Type 0 where
   pub bps-ge : 1 ≤ bps
   pub bps-le : bps ≤ 32
-  pub allowed : Allowed c
+  pub allowed : AllowedChannel c
 
 pub record Channelled (s : StreamInfo) (bps : ℕ) (c : Parameters) : Type 0 where
   pub kb-ge : 1 ≤ s .kb

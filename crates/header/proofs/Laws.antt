@@ -1,5 +1,4 @@
--- What a caller learns from an answer that it took apart, and that each promise permits one answer.
--- A plan's answer is taken apart by the laws of `Reaches`.
+-- What a caller learns from an answer that it took apart (of a plan, by the laws of `Reaches`), and that each promise permits one answer.
 use Prim.Native.Nat.{ℕ, zero, suc, _-_, _^_, _≤_, _<_}
 use mathlib.Core.Path.{_≡_, refl, sym, ap, ap₂, _∙_}
 use mathlib.Core.List.{List, [], _∷_, _++_}
@@ -37,13 +36,13 @@ module _ {frame : ℕ} {a : Ans rule.Header} {g : HeaderRead} (r : HeaderTold fr
   unfolding SaneHeader
   known-sane-of k = rw k at (r .sane)
 
-  pub unknown-of : {x : Refusal} {pl : Place} → g ≡ Refused x pl → a ≡ bad x (bitOf pl)
+  pub header-refused-of : {x : Refusal} {pl : Place} → g ≡ Refused x pl → a ≡ bad x (bitOf pl)
   unfolding toldHeader
-  unknown-of k = sym (r .tells) ∙ ap toldHeader k
+  header-refused-of k = sym (r .tells) ∙ ap toldHeader k
 
-  pub unknown-plain-of : {x : Refusal} {pl : Place} → g ≡ Refused x pl → pl .bit < 8
+  pub header-refused-plain-of : {x : Refusal} {pl : Place} → g ≡ Refused x pl → pl .bit < 8
   unfolding SaneHeader
-  unknown-plain-of k = rw k at (r .sane)
+  header-refused-plain-of k = rw k at (r .sane)
 
 abbrev headerFrom : rule.Header → Header
 headerFrom h = record { code = h .code; raw = h .raw; samples = h .samples }

@@ -25,7 +25,7 @@ use Rattle.bitcursor.specs.declared.Reached.the-variants.{At, Refused}
 use Rattle.bitcursor.specs.Reads.{toldAs, PlainAt, Reaches}
 use Rattle.bitcursor.proofs.Laws.{reached-of, refused-of}
 use Rattle.header.proofs.Laws.{settled-order}
-use Rattle.header.specs.Told.{oldestFirst, paramsOf, noParameters, Settled, CoefsTold, ShortParameters, ParametersTold, channelsOf, ChannelsTold, planOf, SettledPlan, allowed, refusedPlan, judgedPlan, Allowed, AllowedPlan, SanePlan, PlanTold}
+use Rattle.header.specs.Told.{oldestFirst, paramsOf, noParameters, Settled, CoefsTold, ShortParameters, ParametersTold, channelsOf, ChannelsTold, planOf, BothSettled, planOk, refusedPlan, judgedPlan, AllowedChannel, AllowedPlan, SanePlan, PlanTold}
 use Rattle.header.specs.declared.Plan.{Plan}
 use Rattle.header.specs.declared.Parameters.{Parameters}
 
@@ -110,7 +110,11 @@ module _ (bits : List ℕ) {order : ℕ} where
           order-lt = f .order-lt;
           size = length-set coefs left (signed 16 v) ∙ f .size;
           rest = drop-set-lt order coefs left (signed 16 v) j ∙ f .rest;
-          go = f .go ∙ ap (answered _) (times-more (field bits 16) left (bitOf at) e) ∙ answered-answered _ _ _ ∙ answered-same (times left (field bits 16) (bitOf next)) (λ vs. ap (reverseAux (map (signed 16) vs)) (sym (take-set order left coefs (signed 16 v) j i)));
+          go =
+              f .go
+              ∙ ap (answered _) (times-more (field bits 16) left (bitOf at) e)
+              ∙ answered-answered _ _ _
+              ∙ answered-same (times left (field bits 16) (bitOf next)) (λ vs. ap (reverseAux (map (signed 16) vs)) (sym (take-set order left coefs (signed 16 v) j i)));
         })
 
     pub filling-short : {left : ℕ} → Filling bits order start coefs left at → 0 < left → field bits 16 (bitOf at) ≡ bad refusal.Short (bitOf at)
@@ -126,7 +130,7 @@ module _ (bits : List ℕ) {order : ℕ} where
 
 -- ---- a channel's parameters
 
-pub none-settled : Settled noParameters
+none-settled : Settled noParameters
 none-settled = record { quant-lt = omega arith; order-lt = omega arith; rest = refl }
 
 pub parameters-short : {a : Ans rule.Params} {at : Place} {g : Reached} {c : Parameters} → ShortParameters at g c → at .bit < 8 → a ≡ bad refusal.Short (bitOf at) → ParametersTold a g c
@@ -139,7 +143,7 @@ module _ {A B : Type 0} (f : A → B) where
   answered-told v (At pl) = refl
   answered-told v (Refused x pl) = refl
 
-  pub reaches-answered : {a : Ans A} {v : A} {g : Reached} → Reaches a v g → Reaches (answered f a) (f v) g
+  reaches-answered : {a : Ans A} {v : A} {g : Reached} → Reaches a v g → Reaches (answered f a) (f v) g
   reaches-answered {v = v} {g = g} r = record { tells = sym (answered-told v g) ∙ ap (answered f) (r .tells); plain = r .plain }
 
 -- pb has 8 bits and pb_factor 3
@@ -150,14 +154,15 @@ factor-fits {pb} {pbFactor} h k =
     omega (arith, mul-le-mul a b)
 
 -- the coefficients come last
-pub parameters-read : (bits : List ℕ) (mode quant factor order p : ℕ) {g : Reached} {coefs : List ℤ} → quant < 16 → order < 32
+pub parameters-read : (bits : List ℕ) {mode quant factor order : ℕ} (p : ℕ) {g : Reached} {coefs : List ℤ} → quant < 16 → order < 32
     → CoefsTold (answered oldestFirst (times order (field bits 16) p)) order g coefs
     → ParametersTold (bind (times order (field bits 16) p) (λ vs q. got (record { mode = mode; quant = quant; factor = factor; coefs = oldestFirst vs }) q)) g
     (record { mode = mode; quant = quant; factor = factor; order = order; coefs = coefs })
-parameters-read bits mode quant factor order p h k r =
+parameters-read bits {mode} {quant} {factor} {order} p h k r =
     let f : List ℤ → rule.Params = λ cs. record { mode = mode; quant = quant; factor = factor; coefs = cs } in
+    let a : Ans (List ℕ) = times order (field bits 16) p in
     record {
-      reaches = rw (← answered-give (λ vs. f (oldestFirst vs)) (times order (field bits 16) p), ← answered-answered oldestFirst f (times order (field bits 16) p)) (reaches-answered f (r .reaches));
+      reaches = rw (← answered-give (λ vs. f (oldestFirst vs)) a, ← answered-answered oldestFirst f a) (reaches-answered f (r .reaches));
       settled = record { quant-lt = h; order-lt = k; rest = r .rest };
     }
 
@@ -172,8 +177,7 @@ module _ (one : Read rule.Params) (p : ℕ) {g : Reached} {first : Parameters} (
       let f = refused-of (r .reaches) e in
       record {
         reaches = record { tells = rw (e, f); plain = r .reaches .plain };
-        first-settled = r .settled;
-        second-settled = none-settled;
+        settled = record { of-first = r .settled; of-second = none-settled };
         alone = λ k. refl;
       }
 
@@ -182,8 +186,7 @@ module _ (one : Read rule.Params) (p : ℕ) {g : Reached} {first : Parameters} (
   channels-one {channels} e =
       rw e (record {
         reaches = rw (times-one one p) (reaches-answered (λ c. c ∷ []) (r .reaches));
-        first-settled = r .settled;
-        second-settled = none-settled;
+        settled = record { of-first = r .settled; of-second = none-settled };
         alone = λ k. refl;
       })
 
@@ -195,8 +198,7 @@ module _ (one : Read rule.Params) (p : ℕ) {g : Reached} {first : Parameters} (
         reaches =
             rw (times-more one 1 p (reached-of (r .reaches) k), times-one one (bitOf pl))
             (reaches-answered (λ cs. paramsOf first ∷ cs) (reaches-answered (λ c. c ∷ []) (r′ .reaches)));
-        first-settled = r .settled;
-        second-settled = r′ .settled;
+        settled = record { of-first = r .settled; of-second = r′ .settled };
         alone = λ h. absurd (omega arith);
       })
 
@@ -213,7 +215,7 @@ pub signed-zero : (b r : ℕ) → isZero (signed b r) ≡ eqb r 0
 unfolding signed
 signed-zero b r = by-sign b r (ltb (2 * r) (2 ^ b)) refl
 
-settled-allowed : {c : Parameters} → Settled c → rule.paramsOk (paramsOf c) ≡ true → Allowed c
+settled-allowed : {c : Parameters} → Settled c → rule.paramsOk (paramsOf c) ≡ true → AllowedChannel c
 unfolding rule.paramsOk
 settled-allowed {c} f e =
     let n : ℕ = length (take (c .order) (c .coefs)) in
@@ -226,8 +228,8 @@ settled-allowed {c} f e =
       settled = f;
     }
 
-module _ {channels : ℕ} (p : Plan) (h : p .«mix_res» < 256) (f : SettledPlan p) (k : channels ≡ 1 → p .second ≡ noParameters) where
-  allowed-plan : allowed channels (planOf channels p) ≡ true → AllowedPlan channels p
+module _ {channels : ℕ} (p : Plan) (h : p .«mix_res» < 256) (f : BothSettled (p .first) (p .second)) (k : channels ≡ 1 → p .second ≡ noParameters) where
+  allowed-plan : planOk channels (planOf channels p) ≡ true → AllowedPlan channels p
   unfolding channelsOf rule.allOf rule.mixOk
   allowed-plan e =
       let mix : ℤ = signed 8 (p .«mix_res») in
@@ -237,12 +239,12 @@ module _ {channels : ℕ} (p : Plan) (h : p .«mix_res» < 256) (f : SettledPlan
       record {
         mix-res-lt = h;
         mix-bits-le = λ two some. leb-true (p .«mix_bits») 31 (rw (two, signed-zero 8 (p .«mix_res»), ne-eqb (p .«mix_res») 0 (λ z. omega arith)) at (all .1));
-        first = settled-allowed (f .first-settled) (cs .0);
-        second = λ two. settled-allowed (f .second-settled) (and-eq-true-iff (rule.paramsOk (paramsOf (p .second))) true .0 (rw two at (cs .1)) .0);
+        first = settled-allowed (f .of-first) (cs .0);
+        second = λ two. settled-allowed (f .of-second) (and-eq-true-iff (rule.paramsOk (paramsOf (p .second))) true .0 (rw two at (cs .1)) .0);
         alone = k;
       }
 
-  judged-by : (end : Place) (t : Bool) → end .bit < 8 → allowed channels (planOf channels p) ≡ t
+  judged-by : (end : Place) (t : Bool) → end .bit < 8 → planOk channels (planOf channels p) ≡ t
       → PlanTold channels (bind (check t refusal.Parameters (bitOf end)) (λ u i. got (planOf channels p) i)) (pick t (record { answer = At end; plan = p }) (refusedPlan refusal.Parameters end))
   unfolding toldAs PlainAt SanePlan bind
   judged-by end true l e = record { reaches = record { tells = refl; plain = l }; sane = allowed-plan e }
@@ -250,8 +252,8 @@ module _ {channels : ℕ} (p : Plan) (h : p .«mix_res» < 256) (f : SettledPlan
 
   -- judged at the end of all parameters
   pub plan-judged : (end : Place) → end .bit < 8
-      → PlanTold channels (bind (check (allowed channels (planOf channels p)) refusal.Parameters (bitOf end)) (λ u i. got (planOf channels p) i)) (judgedPlan channels p end)
-  plan-judged end l = judged-by end (allowed channels (planOf channels p)) l refl
+      → PlanTold channels (bind (check (planOk channels (planOf channels p)) refusal.Parameters (bitOf end)) (λ u i. got (planOf channels p) i)) (judgedPlan channels p end)
+  plan-judged end l = judged-by end (planOk channels (planOf channels p)) l refl
 
 pub plan-refused : {channels : ℕ} {a : Ans rule.Plan} {x : Refusal} {at : Place} → at .bit < 8 → a ≡ bad x (bitOf at) → PlanTold channels a (refusedPlan x at)
 unfolding toldAs PlainAt SanePlan

@@ -30,12 +30,12 @@ pub record SamePlace (at r : Place) : Type 0 where
 
 -- ---- the header
 
-abbrev pub headerOf : Header → rule.Header
-headerOf h = record { code = h .code; raw = h .raw; samples = h .samples }
-
 -- the header of a shift code, an uncompressed bit and a sample number
 abbrev pub headerWith : ℕ → ℕ → ℕ → rule.Header
 headerWith code raw n = record { code = code; raw = raw; samples = n }
+
+abbrev pub headerOf : Header → rule.Header
+headerOf h = headerWith (h .code) (h .raw) (h .samples)
 
 unfoldable pub toldHeader : HeaderRead → Ans rule.Header
 toldHeader (Known h pl) = got (headerOf h) (bitOf pl)
@@ -100,6 +100,10 @@ pub record ChannelsAsked (at : Place) (channels : ℕ) : Type 0 where
   pub plain : at .bit < 8
   pub number : OneOrTwo channels
 
+pub record BothSettled (first second : Parameters) : Type 0 where
+  pub of-first : Settled first
+  pub of-second : Settled second
+
 -- of one channel the second counts for nothing
 unfoldable pub channelsOf : ℕ → Parameters → Parameters → List rule.Params
 channelsOf channels first second = paramsOf first ∷ pick (eqb channels 1) [] (paramsOf second ∷ [])
@@ -107,8 +111,7 @@ channelsOf channels first second = paramsOf first ∷ pick (eqb channels 1) [] (
 -- the parameters of one channel or two
 pub record ChannelsTold (channels : ℕ) (a : Ans (List rule.Params)) (g : Reached) (first second : Parameters) : Type 0 where
   pub reaches : Reaches a (channelsOf channels first second) g
-  pub first-settled : Settled first
-  pub second-settled : Settled second
+  pub settled : BothSettled first second
   pub alone : channels ≡ 1 → second ≡ noParameters
 
 abbrev pub planOf : ℕ → Plan → rule.Plan
@@ -121,13 +124,9 @@ planOf channels p = record {
 abbrev pub noPlan : Plan
 noPlan = record { «mix_bits» = 0; «mix_res» = 0; first = noParameters; second = noParameters }
 
-pub record SettledPlan (p : Plan) : Type 0 where
-  pub first-settled : Settled (p .first)
-  pub second-settled : Settled (p .second)
-
 -- cause 11 does not hold
-abbrev pub allowed : ℕ → rule.Plan → Bool
-allowed channels p = rule.allOf rule.paramsOk (p .params) && rule.mixOk channels (p .mixBits) (p .mixRes)
+abbrev pub planOk : ℕ → rule.Plan → Bool
+planOk channels p = rule.allOf rule.paramsOk (p .params) && rule.mixOk channels (p .mixBits) (p .mixRes)
 
 -- a refused plan is all zero
 abbrev pub refusedPlan : Refusal → Place → PlanRead
@@ -135,10 +134,10 @@ refusedPlan x at = record { answer = reached.Refused x at; plan = noPlan }
 
 -- judged once all parameters are read
 abbrev pub judgedPlan : ℕ → Plan → Place → PlanRead
-judgedPlan channels p end = pick (allowed channels (planOf channels p)) (record { answer = reached.At end; plan = p }) (refusedPlan refusal.Parameters end)
+judgedPlan channels p end = pick (planOk channels (planOf channels p)) (record { answer = reached.At end; plan = p }) (refusedPlan refusal.Parameters end)
 
 -- what an accepted channel has
-pub record Allowed (c : Parameters) : Type 0 where
+pub record AllowedChannel (c : Parameters) : Type 0 where
   pub quant-pos : 0 < c .quant
   pub order-le : c .order ≤ 30
   pub factor-le : c .factor ≤ 127
@@ -148,8 +147,8 @@ pub record Allowed (c : Parameters) : Type 0 where
 pub record AllowedPlan (channels : ℕ) (p : Plan) : Type 0 where
   pub mix-res-lt : p .«mix_res» < 256
   pub mix-bits-le : channels ≡ 2 → 0 < p .«mix_res» → p .«mix_bits» ≤ 31
-  pub first : Allowed (p .first)
-  pub second : channels ≡ 2 → Allowed (p .second)
+  pub first : AllowedChannel (p .first)
+  pub second : channels ≡ 2 → AllowedChannel (p .second)
   pub alone : channels ≡ 1 → p .second ≡ noParameters
 
 unfoldable pub SanePlan : ℕ → Plan → Reached → Type 0

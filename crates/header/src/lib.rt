@@ -3,8 +3,9 @@ ghost use mathlib.Core.Path.{_≡_};
 ghost use Prim.Native.Nat.{_<_};
 ghost use Rattle.rules.specs.Answers.{answered, times};
 ghost use Rattle.rules.specs.Bits.{bitOf, bitsOf, field};
-ghost use Rattle.rules.specs.Element.{sampleNumber, header, params, paramsOk, planned};
-ghost use Rattle.header.specs.Told.{SamePlace, headerWith, SamplesAsked, HeaderTold, oldestFirst, noParameters, Settled, CoefsAsked, CoefsTold, ShortParameters, ParametersTold, paramsOf, OneOrTwo, ChannelsAsked, ChannelsTold, SettledPlan, planOf, allowed, refusedPlan, judgedPlan, PlanTold};
+ghost use Rattle.rules.specs.Words.{signed};
+ghost use Rattle.rules.specs.Element.{sampleNumber, header, params, paramsOk, mixOk, planned};
+ghost use Rattle.header.specs.Told.{SamePlace, headerWith, SamplesAsked, HeaderTold, oldestFirst, noParameters, Settled, CoefsAsked, CoefsTold, ShortParameters, ParametersTold, paramsOf, OneOrTwo, ChannelsAsked, ChannelsTold, BothSettled, planOf, planOk, refusedPlan, judgedPlan, PlanTold};
 use bitcursor::Got;
 use bitcursor::Reached;
 use bitcursor::read;
@@ -113,6 +114,7 @@ fn read_sample_number(
     )
 }
 
+// What stands after an audio element's tag. The instance is of no use.
 pub fn read_header(packet: &[u8], s: StreamInfo, at: Place) -> HeaderRead
     ensures { λ r. ⌜ HeaderTold (s .«frame_length») (header (bitsOf (now (packet .entry))) s (bitOf at)) r ⌝ }
 {
@@ -254,6 +256,7 @@ fn read_channels(packet: &[u8], s: StreamInfo, at: Place, channels: u32) -> Chan
     }
 }
 
+// Cause 11 of a channel. The Rust asserts that order 31 never comes, and judges no other of these.
 fn parameters_ok(c: Parameters) -> bool
     requires { ⌜ Settled c ⌝ }
     ensures { λ r. ⌜ r ≡ paramsOk (paramsOf c) ⌝ }
@@ -267,25 +270,36 @@ fn parameters_ok(c: Parameters) -> bool
     c.factor <= 127
 }
 
+// Cause 11 of a pair: the mix is shifted by mix_bits, unless mix_res is 0.
+fn mix_ok(channels: u32, mix_bits: u32, mix_res: u32) -> bool
+    ensures { λ r. ⌜ r ≡ mixOk channels «mix_bits» (signed 8 «mix_res») ⌝ }
+{
+    if channels == 1 {
+        return true;
+    }
+    if mix_res == 0 {
+        return true;
+    }
+    mix_bits <= 31
+}
+
 fn plan_ok(plan: Plan, channels: u32) -> bool
-    requires { ⌜ SettledPlan plan ⌝ }
-    ensures { λ r. ⌜ r ≡ allowed channels (planOf channels plan) ⌝ }
+    requires { ⌜ BothSettled (plan .first) (plan .second) ⌝ }
+    ensures { λ r. ⌜ r ≡ planOk channels (planOf channels plan) ⌝ }
 {
     let first = plan.first;
     let second = plan.second;
+    let mix = mix_ok(channels, plan.mix_bits, plan.mix_res);
     if !parameters_ok(first) {
         return false;
     }
     if channels == 1 {
-        return true;
+        return mix;
     }
     if !parameters_ok(second) {
         return false;
     }
-    if plan.mix_res == 0 {
-        return true;
-    }
-    plan.mix_bits <= 31
+    mix
 }
 
 fn refused_plan(x: Refusal, at: Place) -> PlanRead
@@ -305,7 +319,7 @@ fn refused_plan(x: Refusal, at: Place) -> PlanRead
 
 // Judged once the parameters of all channels are read.
 fn judged(plan: Plan, channels: u32, end: Place) -> PlanRead
-    requires { ⌜ SettledPlan plan ⌝ }
+    requires { ⌜ BothSettled (plan .first) (plan .second) ⌝ }
     ensures { λ r. ⌜ r ≡ judgedPlan channels plan end ⌝ }
 {
     let refused = refused_plan(Refusal::Parameters, end);
@@ -318,6 +332,7 @@ fn judged(plan: Plan, channels: u32, end: Place) -> PlanRead
     }
 }
 
+// What stands after a compressed element's header.
 pub fn read_plan(packet: &[u8], s: StreamInfo, at: Place, channels: u32) -> PlanRead
     requires { ⌜ OneOrTwo channels ⌝ }
     ensures { λ r. ⌜ PlanTold channels (planned (bitsOf (now (packet .entry))) s channels (bitOf at)) r ⌝ }

@@ -48,7 +48,11 @@ returns-2 c =
     let a = c .before .before .before .before in
     let v = a .at-unused .given in
     record {
-      tells = rw (← a .before .before .before .plain .ensures .same, value-of (a .before .before .read .ensures) (v .1), cut-of _ 12 (bitOf (v .0 .1 .0)) (c .before .before .read2 .ensures) (c .enum-told2 .given .1));
+      tells = rw (
+        ← a .before .before .before .plain .ensures .same,
+        value-of (a .before .before .read .ensures) (v .1),
+        cut-of _ 12 (bitOf (v .0 .1 .0)) (c .before .before .read2 .ensures) (c .enum-told2 .given .1),
+      );
       sane = plain-of (a .before .before .read .ensures) (v .1);
     }
 
@@ -58,7 +62,12 @@ returns-3 c =
     let b = c .before .before in
     let a = b .before .before .before .before in
     record {
-      tells = rw (← a .before .before .before .plain .ensures .same, value-of (a .before .before .read .ensures) (a .at-unused .given .1), value-of (b .before .before .read2 .ensures) (b .unused .given .1), ne-eqb (b .unused .given .0 .0) 0 (c .if1 .taken));
+      tells = rw (
+        ← a .before .before .before .plain .ensures .same,
+        value-of (a .before .before .read .ensures) (a .at-unused .given .1),
+        value-of (b .before .before .read2 .ensures) (b .unused .given .1),
+        ne-eqb (b .unused .given .0 .0) 0 (c .if1 .taken),
+      );
       sane = plain-of (b .before .before .read2 .ensures) (b .unused .given .1);
     }
 
@@ -78,7 +87,13 @@ returns-4 c =
     let b = i .before .before in
     let a = b .before .before .before .before in
     record {
-      tells = rw (← a .before .before .before .plain .ensures .same, value-of (a .before .before .read .ensures) (a .at-unused .given .1), value-of (b .before .before .read2 .ensures) (b .unused .given .1), i .if1 .left, cut-of _ 1 (bitOf (b .unused .given .0 .1 .0)) (c .before .before .read-bit .ensures) (c .enum-told3 .given .1));
+      tells = rw (
+        ← a .before .before .before .plain .ensures .same,
+        value-of (a .before .before .read .ensures) (a .at-unused .given .1),
+        value-of (b .before .before .read2 .ensures) (b .unused .given .1),
+        i .if1 .left,
+        cut-of _ 1 (bitOf (b .unused .given .0 .1 .0)) (c .before .before .read-bit .ensures) (c .enum-told3 .given .1),
+      );
       sane = plain-of (b .before .before .read2 .ensures) (b .unused .given .1);
     }
 
@@ -99,7 +114,14 @@ returns-5 c =
     let b = i .before .before in
     let a = b .before .before .before .before in
     record {
-      tells = rw (← a .before .before .before .plain .ensures .same, value-of (a .before .before .read .ensures) (a .at-unused .given .1), value-of (b .before .before .read2 .ensures) (b .unused .given .1), i .if1 .left, value-of (d .before .before .read-bit .ensures) (d .partial .given .1), cut-of _ 2 (bitOf (d .partial .given .0 .1 .0)) (c .before .before .read3 .ensures) (c .enum-told4 .given .1));
+      tells = rw (
+        ← a .before .before .before .plain .ensures .same,
+        value-of (a .before .before .read .ensures) (a .at-unused .given .1),
+        value-of (b .before .before .read2 .ensures) (b .unused .given .1),
+        i .if1 .left,
+        value-of (d .before .before .read-bit .ensures) (d .partial .given .1),
+        cut-of _ 2 (bitOf (d .partial .given .0 .1 .0)) (c .before .before .read3 .ensures) (c .enum-told4 .given .1),
+      );
       sane = plain-of (d .before .before .read-bit .ensures) (d .partial .given .1);
     }
 
@@ -112,7 +134,15 @@ returns-6 c =
     let b = i .before .before in
     let a = b .before .before .before .before in
     record {
-      tells = rw (← a .before .before .before .plain .ensures .same, value-of (a .before .before .read .ensures) (a .at-unused .given .1), value-of (b .before .before .read2 .ensures) (b .unused .given .1), i .if1 .left, value-of (d .before .before .read-bit .ensures) (d .partial .given .1), value-of (e .before .before .read3 .ensures) (e .code .given .1), le-ltb (e .code .given .0 .0) 3 (c .if2 .taken));
+      tells = rw (
+        ← a .before .before .before .plain .ensures .same,
+        value-of (a .before .before .read .ensures) (a .at-unused .given .1),
+        value-of (b .before .before .read2 .ensures) (b .unused .given .1),
+        i .if1 .left,
+        value-of (d .before .before .read-bit .ensures) (d .partial .given .1),
+        value-of (e .before .before .read3 .ensures) (e .code .given .1),
+        le-ltb (e .code .given .0 .0) 3 (c .if2 .taken),
+      );
       sane = plain-of (e .before .before .read3 .ensures) (e .code .given .1);
     }
 
@@ -135,7 +165,16 @@ returns-7 c =
     let b = i .before .before in
     let a = b .before .before .before .before in
     record {
-      tells = rw (← a .before .before .before .plain .ensures .same, value-of (a .before .before .read .ensures) (a .at-unused .given .1), value-of (b .before .before .read2 .ensures) (b .unused .given .1), i .if1 .left, value-of (d .before .before .read-bit .ensures) (d .partial .given .1), value-of (e .before .before .read3 .ensures) (e .code .given .1), lt-ltb (e .code .given .0 .0) 3 (omega (arith, j .if2 .left)), cut-of _ 1 (bitOf (e .code .given .0 .1 .0)) (c .before .before .read-bit2 .ensures) (c .enum-told5 .given .1));
+      tells = rw (
+        ← a .before .before .before .plain .ensures .same,
+        value-of (a .before .before .read .ensures) (a .at-unused .given .1),
+        value-of (b .before .before .read2 .ensures) (b .unused .given .1),
+        i .if1 .left,
+        value-of (d .before .before .read-bit .ensures) (d .partial .given .1),
+        value-of (e .before .before .read3 .ensures) (e .code .given .1),
+        lt-ltb (e .code .given .0 .0) 3 (omega (arith, j .if2 .left)),
+        cut-of _ 1 (bitOf (e .code .given .0 .1 .0)) (c .before .before .read-bit2 .ensures) (c .enum-told5 .given .1),
+      );
       sane = plain-of (e .before .before .read3 .ensures) (e .code .given .1);
     }
 
@@ -157,7 +196,16 @@ returns-8 c =
     let b = i .before .before in
     let a = b .before .before .before .before in
     record {
-      tells = rw (← a .before .before .before .plain .ensures .same, value-of (a .before .before .read .ensures) (a .at-unused .given .1), value-of (b .before .before .read2 .ensures) (b .unused .given .1), i .if1 .left, value-of (d .before .before .read-bit .ensures) (d .partial .given .1), value-of (e .before .before .read3 .ensures) (e .code .given .1), lt-ltb (e .code .given .0 .0) 3 (omega (arith, j .if2 .left)), value-of (f .before .before .read-bit2 .ensures) (f .raw .given .1)) (c .read-sample-number .ensures .tells ∙ answered-give _ _);
+      tells = rw (
+        ← a .before .before .before .plain .ensures .same,
+        value-of (a .before .before .read .ensures) (a .at-unused .given .1),
+        value-of (b .before .before .read2 .ensures) (b .unused .given .1),
+        i .if1 .left,
+        value-of (d .before .before .read-bit .ensures) (d .partial .given .1),
+        value-of (e .before .before .read3 .ensures) (e .code .given .1),
+        lt-ltb (e .code .given .0 .0) 3 (omega (arith, j .if2 .left)),
+        value-of (f .before .before .read-bit2 .ensures) (f .raw .given .1),
+      ) (c .read-sample-number .ensures .tells ∙ answered-give _ _);
       sane = c .read-sample-number .ensures .sane;
     }
 

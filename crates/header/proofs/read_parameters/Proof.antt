@@ -45,7 +45,10 @@ returns-2 c =
     let m = c .before .before .before .before .before in
     let v = m .mode .given in
     let r = m .before .before .read .ensures in
-    parameters-short (c .short-parameters2 .ensures) (plain-of r (v .1)) (rw (value-of r (v .1), cut-of _ 4 (bitOf (v .0 .1 .0)) (c .before .before .before .read2 .ensures) (c .before .enum-told2 .given .1)))
+    parameters-short (c .short-parameters2 .ensures) (plain-of r (v .1)) (rw (
+      value-of r (v .1),
+      cut-of _ 4 (bitOf (v .0 .1 .0)) (c .before .before .before .read2 .ensures) (c .before .enum-told2 .given .1),
+    ))
 
 read-requires-3 : tie.Need-read-requires-3
 read-requires-3 c κs = search needs
@@ -66,8 +69,11 @@ returns-3 c =
     let v = q .quant .given in
     let r = q .before .before .read2 .ensures in
     let m = q .before .before .before .before in
-    parameters-short (c .short-parameters3 .ensures) (plain-of r (v .1))
-    (rw (value-of (m .before .before .read .ensures) (m .mode .given .1), value-of r (v .1), cut-of _ 3 (bitOf (v .0 .1 .0)) (c .before .before .before .read3 .ensures) (c .before .enum-told3 .given .1)))
+    parameters-short (c .short-parameters3 .ensures) (plain-of r (v .1)) (rw (
+      value-of (m .before .before .read .ensures) (m .mode .given .1),
+      value-of r (v .1),
+      cut-of _ 3 (bitOf (v .0 .1 .0)) (c .before .before .before .read3 .ensures) (c .before .enum-told3 .given .1),
+    ))
 
 read-requires-4 : tie.Need-read-requires-4
 read-requires-4 c κs = search needs
@@ -89,14 +95,19 @@ returns-4 c =
     let r = f .before .before .read3 .ensures in
     let q = f .before .before .before .before in
     let m = q .before .before .before .before in
-    parameters-short (c .short-parameters4 .ensures) (plain-of r (v .1))
-    (rw (value-of (m .before .before .read .ensures) (m .mode .given .1), value-of (q .before .before .read2 .ensures) (q .quant .given .1), value-of r (v .1), cut-of _ 5 (bitOf (v .0 .1 .0)) (c .before .before .before .read4 .ensures) (c .before .enum-told4 .given .1)))
+    parameters-short (c .short-parameters4 .ensures) (plain-of r (v .1)) (rw (
+      value-of (m .before .before .read .ensures) (m .mode .given .1),
+      value-of (q .before .before .read2 .ensures) (q .quant .given .1),
+      value-of r (v .1),
+      cut-of _ 5 (bitOf (v .0 .1 .0)) (c .before .before .before .read4 .ensures) (c .before .enum-told4 .given .1),
+    ))
 
 read-coefs-requires : tie.Need-read-coefs-requires
 read-coefs-requires c κs =
     let r = c .before .before .before .read4 .ensures in
-    let v = c .before .order .given in
-    record { plain = plain-of r (v .1); order-lt = read-lt _ 5 (bitOf (c .before .before .before .before .before .pb-factor .given .0 .1 .0)) (value-of r (v .1)) }
+    let v = c .before .order .given .1 in
+    let at = c .before .before .before .before .before .pb-factor .given .0 .1 .0 in
+    record { plain = plain-of r v; order-lt = read-lt _ 5 (bitOf at) (value-of r v) }
 
 cast-factor : tie.Need-cast-factor
 cast-factor c = search needs
@@ -104,8 +115,9 @@ cast-factor c = search needs
 mul-factor : tie.Need-mul-factor
 mul-factor c =
     let f = c .before .before .before .before .before .before .before .before in
-    let v = f .pb-factor .given in
-    record { fits = factor-fits (c .struct-known .given .1 .1 .1 .0 .fits) (read-lt _ 3 (bitOf (f .before .before .before .before .quant .given .0 .1 .0)) (value-of (f .before .before .read3 .ensures) (v .1))) }
+    let e = value-of (f .before .before .read3 .ensures) (f .pb-factor .given .1) in
+    let at = f .before .before .before .before .quant .given .0 .1 .0 in
+    record { fits = factor-fits (c .struct-known .given .1 .1 .1 .0 .fits) (read-lt _ 3 (bitOf at) e) }
 
 returns-5 : tie.Need-returns-5
 unfolding params bind
@@ -119,7 +131,12 @@ returns-5 c =
     let e = value-of (o .before .before .read4 .ensures) (o .order .given .1) in
     let d = value-of (q .before .before .read2 .ensures) (q .quant .given .1) in
     rw (value-of (m .before .before .read .ensures) (m .mode .given .1), d, value-of (f .before .before .read3 .ensures) (f .pb-factor .given .1), e)
-    (parameters-read bits _ _ _ _ (bitOf (o .order .given .0 .1 .0)) (read-lt _ 4 (bitOf (m .mode .given .0 .1 .0)) d) (read-lt _ 5 (bitOf (f .pb-factor .given .0 .1 .0)) e) (c .before .before .read-coefs .ensures))
+    (parameters-read
+    bits
+    (bitOf (o .order .given .0 .1 .0))
+    (read-lt _ 4 (bitOf (m .mode .given .0 .1 .0)) d)
+    (read-lt _ 5 (bitOf (f .pb-factor .given .0 .1 .0)) e)
+    (c .before .before .read-coefs .ensures))
 
 pub read-parameters-spec : {M : Type 1} → statement M
 read-parameters-spec =

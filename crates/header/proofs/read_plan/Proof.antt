@@ -28,7 +28,10 @@ unfolding planned bind
 returns c =
     let a = c .before .before .before .before in
     rw (c .refused-plan .ensures)
-    (plan-refused (a .plain .ensures .plain) (rw (← a .plain .ensures .same, cut-of _ 8 (bitOf (a .plain .result)) (c .before .before .before .read .ensures) (c .before .enum-told .given .1))))
+    (plan-refused (a .plain .ensures .plain) (rw (
+      ← a .plain .ensures .same,
+      cut-of _ 8 (bitOf (a .plain .result)) (c .before .before .before .read .ensures) (c .before .enum-told .given .1),
+    )))
 
 read-requires-2 : tie.Need-read-requires-2
 read-requires-2 c κs = search needs
@@ -49,10 +52,17 @@ returns-2 c =
     let v = m .mix-bits .given in
     let r = m .before .before .read .ensures in
     rw (c .refused-plan2 .ensures)
-    (plan-refused (plain-of r (v .1)) (rw (← m .before .before .before .plain .ensures .same, value-of r (v .1), cut-of _ 8 (bitOf (v .0 .1 .0)) (c .before .before .before .read2 .ensures) (c .before .enum-told2 .given .1))))
+    (plan-refused (plain-of r (v .1)) (rw (
+      ← m .before .before .before .plain .ensures .same,
+      value-of r (v .1),
+      cut-of _ 8 (bitOf (v .0 .1 .0)) (c .before .before .before .read2 .ensures) (c .before .enum-told2 .given .1),
+    )))
 
 read-channels-requires : tie.Need-read-channels-requires
-read-channels-requires c κs = record { plain = plain-of (c .before .before .before .read2 .ensures) (c .before .mix-res .given .1); number = c .before .before .before .before .before .before .before .before .before .before .pre }
+read-channels-requires c κs = record {
+  plain = plain-of (c .before .before .before .read2 .ensures) (c .before .mix-res .given .1);
+  number = c .before .before .before .before .before .before .before .before .before .before .pre;
+}
 
 enum-known-answer : tie.Need-enum-known-answer
 enum-known-answer c = search needs
@@ -64,7 +74,7 @@ enum-known-answer-2 : tie.Need-enum-known-answer-2
 enum-known-answer-2 c = search needs
 
 judged-requires : tie.Need-judged-requires
-judged-requires c κs = let r = c .before .before .before .before .before .read-channels .ensures in record { first-settled = r .first-settled; second-settled = r .second-settled }
+judged-requires c κs = c .before .before .before .before .before .read-channels .ensures .settled
 
 returns-3 : tie.Need-returns-3
 unfolding planned bind
@@ -75,8 +85,12 @@ returns-3 c =
     let n = w .before .before in
     let m = n .before .before .before .before in
     rw (c .refused-plan3 .ensures)
-    (plan-refused (refused-plain-of r k)
-    (rw (← m .before .before .before .plain .ensures .same, value-of (m .before .before .read .ensures) (m .mix-bits .given .1), value-of (n .before .before .read2 .ensures) (n .mix-res .given .1), refused-of r k)))
+    (plan-refused (refused-plain-of r k) (rw (
+      ← m .before .before .before .plain .ensures .same,
+      value-of (m .before .before .read .ensures) (m .mix-bits .given .1),
+      value-of (n .before .before .read2 .ensures) (n .mix-res .given .1),
+      refused-of r k,
+    )))
 
 returns-4 : tie.Need-returns-4
 unfolding planned bind
@@ -87,8 +101,13 @@ returns-4 c =
     let n = w .before .before in
     let m = n .before .before .before .before in
     let e = value-of (n .before .before .read2 .ensures) (n .mix-res .given .1) in
-    rw (c .judged .ensures, ← m .before .before .before .plain .ensures .same, value-of (m .before .before .read .ensures) (m .mix-bits .given .1), e, reached-of (r .reaches) k)
-    (plan-judged _ (read-lt _ 8 (bitOf (m .mix-bits .given .0 .1 .0)) e) (record { first-settled = r .first-settled; second-settled = r .second-settled }) (r .alone) _ (reached-plain-of (r .reaches) k))
+    rw (
+      c .judged .ensures,
+      ← m .before .before .before .plain .ensures .same,
+      value-of (m .before .before .read .ensures) (m .mix-bits .given .1),
+      e,
+      reached-of (r .reaches) k,
+    ) (plan-judged _ (read-lt _ 8 (bitOf (m .mix-bits .given .0 .1 .0)) e) (r .settled) (r .alone) _ (reached-plain-of (r .reaches) k))
 
 pub read-plan-spec : {M : Type 1} → statement M
 read-plan-spec =

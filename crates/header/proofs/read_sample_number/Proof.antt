@@ -32,8 +32,9 @@ returns-2 c =
     let t = c .before .before .before .before .before in
     let a = t .args in
     let bits = bitsOf (a .packet .now) in
+    let n = number-partial bits (a .s) (a .partial) (bitOf (a .at)) (c .before .before .before .if1 .left) in
     record {
-      tells = rw (number-partial bits (a .s) (a .partial) (bitOf (a .at)) (c .before .before .before .if1 .left), cut-of bits 32 (bitOf (a .at)) (c .before .before .read .ensures) (c .enum-told .given .1));
+      tells = rw (n, cut-of bits 32 (bitOf (a .at)) (c .before .before .read .ensures) (c .enum-told .given .1));
       sane = t .pre .plain;
     }
 
@@ -44,8 +45,9 @@ returns-3 c =
     let a = t .args in
     let v = c .before .before .before .samples .given in
     let r = c .before .before .before .before .before .read .ensures in
+    let n = number-partial (bitsOf (a .packet .now)) (a .s) (a .partial) (bitOf (a .at)) (c .before .before .before .before .before .before .if1 .left) in
     record {
-      tells = rw (number-partial (bitsOf (a .packet .now)) (a .s) (a .partial) (bitOf (a .at)) (c .before .before .before .before .before .before .if1 .left), value-of r (v .1), lt-leb (v .0 .0) (a .s .«frame_length») (c .if2 .taken));
+      tells = rw (n, value-of r (v .1), lt-leb (v .0 .0) (a .s .«frame_length») (c .if2 .taken));
       sane = plain-of r (v .1);
     }
 
@@ -56,8 +58,9 @@ returns-4 c =
     let a = t .args in
     let v = c .before .before .before .samples .given in
     let r = c .before .before .before .before .before .read .ensures in
+    let n = number-partial (bitsOf (a .packet .now)) (a .s) (a .partial) (bitOf (a .at)) (c .before .before .before .before .before .before .if1 .left) in
     record {
-      tells = rw (number-partial (bitsOf (a .packet .now)) (a .s) (a .partial) (bitOf (a .at)) (c .before .before .before .before .before .before .if1 .left), value-of r (v .1), le-leb (v .0 .0) (a .s .«frame_length») (c .if2 .left));
+      tells = rw (n, value-of r (v .1), le-leb (v .0 .0) (a .s .«frame_length») (c .if2 .left));
       sane = (plain-of r (v .1), t .pre .code-le, c .if2 .left);
     }
 
