@@ -2,23 +2,24 @@
 use crate::report::Counts;
 use crate::report::gives;
 use crate::report::holds;
+use crate::streams::stream;
 use rules::CookieAnswer;
 use rules::StreamInfo;
 
 pub fn readings(counts: Counts) -> Counts {
     let counts = plain_cookies(counts);
     let counts = cookies_with_atoms(counts);
-    let counts = getters(counts, stream(4096, 2));
+    let counts = getters(counts, stream(4096, 16, 2));
     let counts = samples(
         counts,
         b"samples of 4294967295 frames and 8 channels",
-        stream(4294967295, 8),
+        stream(4294967295, 16, 8),
         4294967288,
     );
     samples(
         counts,
         b"samples of 536870912 frames and 8 channels",
-        stream(536870912, 8),
+        stream(536870912, 16, 8),
         0,
     )
 }
@@ -100,20 +101,4 @@ fn getters(counts: Counts, info: StreamInfo) -> Counts {
 
 fn samples(counts: Counts, line: &[u8], info: StreamInfo, wanted: u32) -> Counts {
     gives(counts, line, cookie::max_samples_per_packet(info), wanted)
-}
-
-fn stream(frame_length: u32, num_channels: u8) -> StreamInfo {
-    StreamInfo {
-        frame_length: frame_length,
-        compatible_version: 0,
-        bit_depth: 16,
-        pb: 40,
-        mb: 10,
-        kb: 14,
-        num_channels: num_channels,
-        max_run: 255,
-        max_frame_bytes: 0,
-        avg_bit_rate: 0,
-        sample_rate: 44100,
-    }
 }

@@ -1,7 +1,9 @@
 // Document 01's readings taken at the bench: each is run and compared with what the paper says.
 mod bits;
 mod cookies;
+mod packets;
 mod report;
+mod streams;
 
 fn main() {
     let counts = report::Counts {
@@ -10,5 +12,6 @@ fn main() {
     };
     let counts = cookies::readings(counts);
     let counts = bits::readings(counts);
+    let counts = packets::readings(counts);
     report::total(counts);
 }
