@@ -65,9 +65,6 @@ read-lt xs n p e =
     let r = within-got (bitsOf xs) n (num (take n (drop p (bitsOf xs)))) p e in
     omega (arith, field-lt xs n p (r .2))
 
-pub read-next : (bits : List ℕ) (n p : ℕ) {v i : ℕ} → field bits n p ≡ got v i → (i ≡ p + n) × (p + n ≤ length bits)
-read-next bits n p e = let r = within-got bits n (num (take n (drop p bits))) p e in (r .1, r .2)
-
 pub skip-next : (bits : List ℕ) (n p : ℕ) {u : Unit {0}} {i : ℕ} → skip bits n p ≡ got u i → (i ≡ p + n) × (p + n ≤ length bits)
 skip-next bits n p e = let r = within-got bits n tt p e in (r .1, r .2)
 

@@ -17,7 +17,7 @@ use Rattle.rules.specs.Buffers.{laid, lanes, pairs}
 use Rattle.rules.specs.Words.{signed}
 use Rattle.laws.specs.Words.{Every, none, one}
 use Rattle.laws.specs.Buffers.{lanes-count, lanes-row, lanes-length}
-use Rattle.laws.specs.Answers.{answered-answered}
+use Rattle.laws.specs.Answers.{answered-got, answered-bad, answered-answered}
 use Rattle.bitcursor.specs.declared.Got.{Got}
 use Rattle.bitcursor.specs.declared.Got.the-variants.{Value, Short}
 use Rattle.bitcursor.specs.declared.Reached.{Reached}
@@ -32,16 +32,6 @@ use Rattle.element.specs.Raw.{Stores, rowLaid, Rows}
 -- ---- answers
 
 module _ {A B : Type 0} where
-  answered-got : (f : A → B) (a : Ans A) {y : B} {q : ℕ} → answered f a ≡ got y q → (x : A) × (a ≡ got x q) × (y ≡ f x)
-  unfolding answered
-  answered-got f (got x p) e = (x, cc, cc)
-  answered-got f (bad x p) e = let z : _≡_ {A = ℕ} 0 1 = cc in absurd (omega arith)
-
-  answered-bad : (f : A → B) (a : Ans A) {x : Refusal} {q : ℕ} → answered f a ≡ bad x q → a ≡ bad x q
-  unfolding answered
-  answered-bad f (got v p) e = let z : _≡_ {A = ℕ} 0 1 = cc in absurd (omega arith)
-  answered-bad f (bad x p) e = cc
-
   answered-same : (f g : A → B) → ((x : A) → f x ≡ g x) → (a : Ans A) → answered f a ≡ answered g a
   unfolding answered
   answered-same f g h (got x p) = ap (λ (y : B). got y p) (h x)

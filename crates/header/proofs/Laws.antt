@@ -1,4 +1,4 @@
--- What a caller learns from an answer that it took apart (of a plan, by the laws of `Reaches`), and that each promise permits one answer.
+-- That each promise permits one answer.
 use Prim.Native.Nat.{ℕ, zero, suc, _-_, _^_, _≤_, _<_}
 use mathlib.Core.Path.{_≡_, refl, sym, ap, ap₂, _∙_}
 use mathlib.Core.List.{List, [], _∷_, _++_}
@@ -27,23 +27,6 @@ use Rattle.header.specs.Told.{headerOf, toldHeader, SaneHeader, HeaderTo
 
 -- ---- the header
 
-module _ {frame : ℕ} {a : Ans rule.Header} {g : HeaderRead} (r : HeaderTold frame a g) where
-  pub known-of : {h : Header} {pl : Place} → g ≡ Known h pl → a ≡ got (headerOf h) (bitOf pl)
-  unfolding toldHeader
-  known-of k = sym (r .tells) ∙ ap toldHeader k
-
-  pub known-sane-of : {h : Header} {pl : Place} → g ≡ Known h pl → (pl .bit < 8) × (h .code ≤ 2) × (h .samples ≤ frame)
-  unfolding SaneHeader
-  known-sane-of k = rw k at (r .sane)
-
-  pub header-refused-of : {x : Refusal} {pl : Place} → g ≡ Refused x pl → a ≡ bad x (bitOf pl)
-  unfolding toldHeader
-  header-refused-of k = sym (r .tells) ∙ ap toldHeader k
-
-  pub header-refused-plain-of : {x : Refusal} {pl : Place} → g ≡ Refused x pl → pl .bit < 8
-  unfolding SaneHeader
-  header-refused-plain-of k = rw k at (r .sane)
-
 abbrev headerFrom : rule.Header → Header
 headerFrom h = record { code = h .code; raw = h .raw; samples = h .samples }
 
@@ -70,10 +53,6 @@ settled-length {c} f = omega (arith, f .order-lt, length-drop (c .order) (c .coe
 
 pub settled-order : {c : Parameters} → Settled c → length (take (c .order) (c .coefs)) ≡ c .order
 settled-order {c} f = length-take-le (c .order) (c .coefs) (omega (arith, f .order-lt, settled-length f))
-
-pub allowed-of : {channels : ℕ} {a : Ans rule.Plan} {r : PlanRead} → PlanTold channels a r → {pl : Place} → r .answer ≡ reached.At pl → AllowedPlan channels (r .plan)
-unfolding SanePlan
-allowed-of p k = rw k at (p .sane)
 
 -- the code's parameters and plan, of those of the rules
 paramsFrom : rule.Params → Parameters

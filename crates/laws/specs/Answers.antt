@@ -1,20 +1,22 @@
--- Laws of answers: what is done to a value, and what goes on from it.
+-- Laws of answers of which something was made.
 use Prim.Native.Nat.{ℕ}
 use mathlib.Core.Path.{_≡_, refl}
-use Rattle.rules.specs.Answers.{Ans, got, bad, bind, answered}
+use native.Mathlib.Omega.{arith}
+use Rattle.rules.specs.declared.Refusal.{Refusal}
+use Rattle.rules.specs.Answers.{Ans, got, bad, answered}
 
-module _ {A B C : Type 0} where
-  pub answered-bind : (f : B → C) (a : Ans A) (k : A → ℕ → Ans B) → answered f (bind a k) ≡ bind a (λ v p. answered f (k v p))
-  unfolding bind answered
-  answered-bind f (got a p) k = refl
-  answered-bind f (bad x p) k = refl
-
-  pub bind-answered : (f : A → B) (a : Ans A) (k : B → ℕ → Ans C) → bind (answered f a) k ≡ bind a (λ v p. k (f v) p)
-  unfolding bind answered
-  bind-answered f (got a p) k = refl
-  bind-answered f (bad x p) k = refl
-
-  pub answered-answered : (f : A → B) (g : B → C) (a : Ans A) → answered g (answered f a) ≡ answered (λ x. g (f x)) a
+module _ {A B : Type 0} (f : A → B) where
+  pub answered-got : (a : Ans A) {v : B} {i : ℕ} → answered f a ≡ got v i → (d : A) × (a ≡ got d i) × (v ≡ f d)
   unfolding answered
-  answered-answered f g (got a p) = refl
-  answered-answered f g (bad x p) = refl
+  answered-got (got d p) e = (d, cc, cc)
+  answered-got (bad x p) e = let z : _≡_ {A = ℕ} 0 1 = cc in absurd (omega arith)
+
+  pub answered-bad : (a : Ans A) {x : Refusal} {i : ℕ} → answered f a ≡ bad x i → a ≡ bad x i
+  unfolding answered
+  answered-bad (got d p) e = let z : _≡_ {A = ℕ} 0 1 = cc in absurd (omega arith)
+  answered-bad (bad y p) e = cc
+
+  pub answered-answered : {C : Type 0} (g : B → C) (a : Ans A) → answered g (answered f a) ≡ answered (λ x. g (f x)) a
+  unfolding answered
+  answered-answered g (got a p) = refl
+  answered-answered g (bad x p) = refl

@@ -203,10 +203,6 @@ modZ-wrap b c z h =
     rw e (modZ-signed c (modZ (2 ^ c) z) (modZ-lt (2 ^ c) z (pow-pos c))) in
     modZ-down b (c - b) (wrap c z) ∙ ap (λ (n : ℕ). n % 2 ^ b) g ∙ sym (modZ-down b (c - b) z)
 
--- the low b bits of z are all that counts
-pub wrap-bits : (b : ℕ) (z : ℤ) → wrap b (pos (modZ (2 ^ b) z)) ≡ wrap b z
-wrap-bits b z = wrap-same b (pos (modZ (2 ^ b) z)) z (modZ-pos (2 ^ b) (modZ (2 ^ b) z) (modZ-lt (2 ^ b) z (pow-pos b)))
-
 pub wrap-wrap : (b c : ℕ) (z : ℤ) → b ≤ c → wrap b (wrap c z) ≡ wrap b z
 wrap-wrap b c z h = wrap-same b (wrap c z) z (modZ-wrap b c z h)
 
