@@ -1,7 +1,8 @@
 # make test: the gate. make readings: document 01's bench readings, run and compared. make compare: ours beside the original Rust.
+# make bench: nanoseconds a sample, ours and the original Rust.
 SHELL := /bin/bash
 
-.PHONY: test readings compare kit
+.PHONY: test readings compare bench kit
 
 test: kit
 	rt fmt --check
@@ -14,8 +15,10 @@ readings: kit
 # Status 3 of oracle/build: no rustc, or no source of the original; it says so, and nothing is compared.
 CASES ?= 100000
 compare: kit
-	@oracle/build || { status=$$?; [ $$status -eq 3 ] && exit 0; exit $$status; }
-	@target/oracle/oracle compare $(CASES)
+	@if oracle/build; then target/oracle/oracle compare $(CASES); else [ $$? -eq 3 ]; fi
+
+bench: kit
+	@if oracle/build; then target/oracle/oracle bench; else [ $$? -eq 3 ]; fi
 
 # The Rattle kit is all that this repository needs beyond make and bash; `compare` takes rustc and the original's source too.
 kit:

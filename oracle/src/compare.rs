@@ -15,7 +15,7 @@ pub struct Agreed {
     pub difference: Option<&'static str>,
 }
 
-fn expect(ok: bool, what: &str) -> Result<(), String> {
+pub fn expect(ok: bool, what: &str) -> Result<(), String> {
     if ok { Ok(()) } else { Err(what.to_string()) }
 }
 

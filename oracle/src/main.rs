@@ -1,19 +1,27 @@
 //! Ours beside alac 0.5.0.
-//!   oracle compare N [SEED]              N random cases, short packets exhaustively; a table
-//!   oracle replay WIDTH COOKIE PACKET    one case, in hexadecimal
+//!   oracle compare N [SEED]              N random packets read, short ones exhaustively, and N passages packed; a table of each
+//!   oracle replay WIDTH COOKIE PACKET    one packet, in hexadecimal
+//!   oracle repack COOKIE SETTINGS PASSAGE BYTES SCRATCH    one passage, in hexadecimal, with so much lent
 //!   oracle record N                      N of the original's answers, for the program `replay`
+//!   oracle bench                         nanoseconds a sample
 
+mod bench;
 mod bits;
 mod cases;
 mod compare;
+mod ffmpeg;
 mod original;
 mod ours;
+mod pack;
+mod passages;
 mod random;
 mod record;
 mod stream;
 mod table;
+mod writer;
 
 use compare::case;
+use pack::Pack;
 use random::Random;
 use stream::Stream;
 use table::Table;
@@ -24,6 +32,15 @@ fn hex(bytes: &[u8]) -> String {
 
 pub fn unhex(text: &str) -> Vec<u8> {
     (0..text.len() / 2).map(|i| u8::from_str_radix(&text[2 * i..2 * i + 2], 16).expect("hexadecimal")).collect()
+}
+
+/// 16-bit numbers, each in four digits; a dash for none.
+fn hex_i16(numbers: &[i16]) -> String {
+    if numbers.is_empty() { "-".to_string() } else { numbers.iter().map(|x| format!("{x:04x}")).collect() }
+}
+
+fn unhex_i16(text: &str) -> Vec<i16> {
+    unhex(text).chunks(2).map(|b| i16::from_be_bytes([b[0], b[1]])).collect()
 }
 
 fn one(table: &mut Table, s: &Stream, packet: &[u8], wide: bool, short: (usize, usize)) {
@@ -88,7 +105,40 @@ fn compare(n: u64, seed: u64) -> bool {
             break;
         }
     }
-    table.print();
+    table.print("packets", "accepted");
+    let packed = passages_packed(n, seed);
+    table.disagreements == 0 && packed
+}
+
+fn one_packed(table: &mut Table, p: &Pack) {
+    match pack::case(p) {
+        Ok(packed) => table.add_packed(&packed),
+        Err(what) => table.disagree(&format!(
+            "{what}\n  replay: oracle repack {} {} {} {} {}",
+            if p.cookie.is_empty() { "-".to_string() } else { hex(&p.cookie) },
+            hex_i16(&p.settings),
+            hex_i16(&p.passage),
+            p.bytes,
+            p.scratch
+        )),
+    }
+}
+
+fn passages_packed(n: u64, seed: u64) -> bool {
+    let mut table = Table::default();
+    match pack::readings() {
+        Ok(readings) => readings.iter().for_each(|p| one_packed(&mut table, p)),
+        Err(what) => table.disagree(&what),
+    }
+    let mut r = Random::new(seed ^ 1919);
+    for i in 0..n {
+        one_packed(&mut table, &passages::random(&mut r));
+        if table.disagreements >= 10 {
+            println!("stopped after {i} passages");
+            break;
+        }
+    }
+    table.print("passages", "packed, read back");
     table.disagreements == 0
 }
 
@@ -123,9 +173,11 @@ fn main() {
     let ok = match args.first().map(String::as_str) {
         Some("compare") => compare(number(1, 20_000), number(2, 1)),
         Some("replay") => replay(&args[1], &unhex(&args[2]), &unhex(&args[3])),
+        Some("repack") => repack(&args[1..]),
+        Some("bench") => bench::bench(),
         Some("record") => record::record(number(1, 2_000)),
         _ => {
-            eprintln!("oracle compare N [SEED] | replay WIDTH COOKIE PACKET | record N");
+            eprintln!("oracle compare N [SEED] | replay WIDTH COOKIE PACKET | repack COOKIE SETTINGS PASSAGE BYTES SCRATCH | record N | bench");
             false
         }
     };
@@ -133,18 +185,20 @@ fn main() {
 }
 
 fn replay(width: &str, cookie: &[u8], packet: &[u8]) -> bool {
-    let field = |i: usize| cookie[i];
-    let s = Stream {
-        frame_length: u32::from_be_bytes(cookie[..4].try_into().unwrap()),
-        bit_depth: field(5),
-        pb: field(6),
-        mb: field(7),
-        kb: field(8),
-        num_channels: field(9),
-    };
+    let s = Stream::of(cookie).expect("a whole cookie");
     let result = if width == "i32" { case::<i32>(&s, packet, (0, 0)) } else { case::<i16>(&s, packet, (0, 0)) };
     match result {
         Ok(a) => println!("agreed: {} {}", a.number, a.difference.unwrap_or("")),
+        Err(what) => println!("{what}"),
+    }
+    true
+}
+
+fn repack(args: &[String]) -> bool {
+    let lent = |i: usize| args[i].parse().expect("a number");
+    let p = Pack { cookie: unhex(&args[0]), settings: unhex_i16(&args[1]), passage: unhex_i16(&args[2]), bytes: lent(3), scratch: lent(4) };
+    match pack::case(&p) {
+        Ok(a) => println!("agreed: {}", a.number),
         Err(what) => println!("{what}"),
     }
     true

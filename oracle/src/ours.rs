@@ -10,22 +10,40 @@ extern "C" {
         cookie: *const u8, cookie_len: usize, packet: *const u8, packet_len: usize,
         out: *mut i32, out_len: usize, scratch: *mut i32, scratch_len: usize, answer: *mut u64,
     ) -> u32;
+    fn alac_encode_packet_i16(
+        cookie: *const u8, cookie_len: usize, settings: *const i16, settings_len: usize, passage: *const i16, passage_len: usize,
+        bytes: *mut u8, bytes_len: usize, scratch: *mut i32, scratch_len: usize, answer: *mut u64,
+    ) -> u32;
 }
 
 pub fn stream_info(cookie: &[u8], fields: &mut [u64; 11]) -> u32 {
     unsafe { alac_stream_info(cookie.as_ptr(), cookie.len(), fields.as_mut_ptr()) }
 }
 
+pub fn encode(cookie: &[u8], settings: &[i16], passage: &[i16], bytes: &mut [u8], scratch: &mut [i32], answer: &mut [u64; 4]) -> u32 {
+    unsafe {
+        alac_encode_packet_i16(
+            cookie.as_ptr(), cookie.len(), settings.as_ptr(), settings.len(), passage.as_ptr(), passage.len(),
+            bytes.as_mut_ptr(), bytes.len(), scratch.as_mut_ptr(), scratch.len(), answer.as_mut_ptr(),
+        )
+    }
+}
+
 /// A sample width: what differs between the two entries.
 pub trait Width: Copy + PartialEq + std::fmt::Debug + Default + alac::Sample + departed::Sample {
     const WIDE: bool;
     const MARK: Self;
+    /// What a 16-bit sample is in this width.
+    fn of(sample: i16) -> Self;
     fn decode(cookie: &[u8], packet: &[u8], out: &mut [Self], scratch: &mut [i32], answer: &mut [u64; 4]) -> u32;
 }
 
 impl Width for i16 {
     const WIDE: bool = false;
     const MARK: i16 = 0x5A5A;
+    fn of(sample: i16) -> i16 {
+        sample
+    }
     fn decode(cookie: &[u8], packet: &[u8], out: &mut [i16], scratch: &mut [i32], answer: &mut [u64; 4]) -> u32 {
         unsafe {
             alac_decode_packet_i16(
@@ -39,6 +57,9 @@ impl Width for i16 {
 impl Width for i32 {
     const WIDE: bool = true;
     const MARK: i32 = 0x5A5A_5A5A;
+    fn of(sample: i16) -> i32 {
+        (sample as i32) << 16
+    }
     fn decode(cookie: &[u8], packet: &[u8], out: &mut [i32], scratch: &mut [i32], answer: &mut [u64; 4]) -> u32 {
         unsafe {
             alac_decode_packet_i32(

@@ -13,6 +13,18 @@ pub struct Stream {
 }
 
 impl Stream {
+    /// The fields of a cookie, its atoms skipped; none where it is too short.
+    pub fn of(mut cookie: &[u8]) -> Option<Stream> {
+        for atom in [b"frma", b"alac"] {
+            if cookie.len() >= 24 && cookie[4..8] == *atom {
+                cookie = &cookie[12..];
+            }
+        }
+        let c: &[u8; 24] = cookie.first_chunk()?;
+        let frame_length = u32::from_be_bytes([c[0], c[1], c[2], c[3]]);
+        Some(Stream { frame_length, bit_depth: c[5], pb: c[6], mb: c[7], kb: c[8], num_channels: c[9] })
+    }
+
     pub fn cookie(&self) -> Vec<u8> {
         let mut c = self.frame_length.to_be_bytes().to_vec();
         c.extend([0, self.bit_depth, self.pb, self.mb, self.kb, self.num_channels, 0, 255]);

@@ -1,6 +1,7 @@
 //! What the cases came to.
 
 use crate::compare::Agreed;
+use crate::pack::Packed;
 use std::collections::BTreeMap;
 
 #[derive(Default)]
@@ -8,6 +9,7 @@ pub struct Table {
     cases: u64,
     numbers: BTreeMap<u32, u64>,
     differences: BTreeMap<&'static str, u64>,
+    ffmpeg: u64,
     pub cookies: u64,
     pub disagreements: u64,
 }
@@ -21,6 +23,12 @@ impl Table {
         }
     }
 
+    pub fn add_packed(&mut self, packed: &Packed) {
+        self.cases += 1;
+        *self.numbers.entry(packed.number).or_default() += 1;
+        self.ffmpeg += packed.ffmpeg as u64;
+    }
+
     pub fn disagree(&mut self, what: &str) {
         self.cases += 1;
         self.disagreements += 1;
@@ -32,10 +40,16 @@ impl Table {
         self.numbers.get(&number).copied().unwrap_or(0)
     }
 
-    pub fn print(&self) {
-        println!("cookies               {:>9}", self.cookies);
-        println!("packets               {:>9}", self.cases);
-        println!("accepted              {:>9}", self.reached(0));
+    /// `cases` and `accepted` name what was counted.
+    pub fn print(&self, cases: &str, accepted: &str) {
+        if self.cookies > 0 {
+            println!("cookies               {:>9}", self.cookies);
+        }
+        println!("{cases:<21} {:>9}", self.cases);
+        println!("{accepted:<21} {:>9}", self.reached(0));
+        if self.ffmpeg > 0 {
+            println!("read by FFmpeg too    {:>9}", self.ffmpeg);
+        }
         for (number, count) in self.numbers.iter().filter(|(n, _)| **n != 0) {
             println!("refused with {number:<2}       {count:>9}");
         }

@@ -8,9 +8,13 @@ use Rattle.rules.specs.declared.StreamInfo.{StreamInfo}
 use Rattle.rules.specs.declared.CookieAnswer.{CookieAnswer}
 use Rattle.rules.specs.declared.CookieAnswer.the-variants.{Info, Refused}
 use Rattle.rules.specs.declared.Answer.{Answer}
-use Rattle.rules.specs.Refusals.{number, cookieNumber, readNumber, readCount}
+use Rattle.rules.specs.declared.Packed.{Packed}
+use Rattle.rules.specs.declared.Packed.the-variants as written
+use Rattle.rules.specs.Refusals.{number, cookieNumber, readNumber, readCount, packedNumber, packedCount}
 use Rattle.rules.specs.Stream.{Width}
 use Rattle.rules.specs.Cookie.{fromCookie}
+use Rattle.rules.specs.Writer.{packed, bytesAfter, packScratchAfter}
+use Rattle.settings.specs.Flat.{settingsOf}
 use Rattle.rules.specs.Reader.{decoded, answerOf, outputAfter, scratchAfter}
 
 -- the fields in StreamInfo's order
@@ -54,6 +58,29 @@ pub record Handed (w : Width) (cookie packet : List ℕ) (out out′ scratch scr
   pub words : answer′ ≡ wordsAfter w packet out scratch (fromCookie cookie)
   pub output : out′ ≡ outputLeft w packet out scratch (fromCookie cookie)
   pub room : scratch′ ≡ scratchLeft w packet out scratch (fromCookie cookie)
+
+-- ---- the writer
+
+module _ (flat passage : List ℤ) (bytes : List ℕ) (scratch : List ℤ) where
+  -- a refused cookie is told first; the settings are read for the stream's channels
+  unfoldable pub packedAfter : CookieAnswer → Packed
+  packedAfter (Info s) = packed s (settingsOf (s .«num_channels») flat) passage (length bytes) (length scratch)
+  packedAfter (Refused x) = written.Refused x
+
+  unfoldable pub bytesLeft : CookieAnswer → List ℕ
+  bytesLeft (Info s) = bytesAfter s (settingsOf (s .«num_channels») flat) passage bytes (length scratch)
+  bytesLeft (Refused x) = bytes
+
+  unfoldable pub packScratchLeft : CookieAnswer → List ℤ
+  packScratchLeft (Info s) = packScratchAfter s (settingsOf (s .«num_channels») flat) passage scratch
+  packScratchLeft (Refused x) = scratch
+
+-- number, answer, bytes and scratch to the last place; a refused cookie changes neither bytes nor scratch
+pub record Written (cookie : List ℕ) (flat passage : List ℤ) (bytes bytes′ : List ℕ) (scratch scratch′ : List ℤ) (answer′ : List ℕ) (r : ℕ) : Type 0 where
+  pub number : r ≡ packedNumber (packedAfter flat passage bytes scratch (fromCookie cookie))
+  pub words : answer′ ≡ packedNumber (packedAfter flat passage bytes scratch (fromCookie cookie)) ∷ packedCount (packedAfter flat passage bytes scratch (fromCookie cookie)) ∷ 0 ∷ 0 ∷ []
+  pub output : bytes′ ≡ bytesLeft flat passage bytes scratch (fromCookie cookie)
+  pub room : scratch′ ≡ packScratchLeft flat passage bytes scratch (fromCookie cookie)
 
 -- the words of an answer, and its number
 pub record Worded (number count : ℕ) (words : List ℕ) (r : ℕ) : Type 0 where

@@ -1,16 +1,19 @@
 // The boundary: exported functions over the entries, and nothing else. A slice is a pointer and a length; an array is a pointer.
 ghost use mathlib.Core.Path.{_≡_};
 ghost use mathlib.Core.List.{[], _∷_};
-ghost use Rattle.rules.specs.Refusals.{readNumber, readCount};
+ghost use Rattle.rules.specs.Refusals.{readNumber, readCount, packedNumber, packedCount};
 ghost use Rattle.rules.specs.Stream.{i16Output, i32Output};
-ghost use Rattle.alac.specs.Boundary.{Told, Handed, Worded, fieldsOf};
+ghost use Rattle.alac.specs.Boundary.{Told, Handed, Worded, Written, fieldsOf};
 use cookie::from_cookie;
 use dec::decode_packet_i16;
 use dec::decode_packet_i32;
+use enc::encode_packet_i16;
 use rules::Answer;
 use rules::CookieAnswer;
+use rules::Packed;
 use rules::StreamInfo;
 use rules::number_of;
+use settings::settings_of;
 
 // The fields in StreamInfo's order.
 fn fields_of(s: StreamInfo) -> [u64; 11]
@@ -95,5 +98,35 @@ pub extern "C" fn alac_decode_packet_i32(
     match read {
         CookieAnswer::Refused(refusal) => tell(answer, number_of(refusal), 0),
         CookieAnswer::Info(s) => tell_answer(answer, decode_packet_i32(packet, s, out, scratch)),
+    }
+}
+
+fn tell_packed(answer: &mut [u64; 4], p: Packed) -> u32
+    ensures { λ r. ⌜ Worded (packedNumber p) (packedCount p) (now (answer .exit)) r ⌝ }
+{
+    match p {
+        Packed::Accepted(count) => tell(answer, 0, count),
+        Packed::Refused(refusal) => tell(answer, number_of(refusal), 0),
+    }
+}
+
+#[no_mangle]
+pub extern "C" fn alac_encode_packet_i16(
+    cookie: &[u8],
+    settings: &[i16],
+    passage: &[i16],
+    bytes: &mut [u8],
+    scratch: &mut [i32],
+    answer: &mut [u64; 4],
+) -> u32
+    ensures { λ r. ⌜ Written (now (cookie .entry)) (now (settings .entry)) (now (passage .entry)) (now (bytes .entry)) (now (bytes .exit)) (now (scratch .entry)) (now (scratch .exit)) (now (answer .exit)) r ⌝ }
+{
+    let read = from_cookie(cookie);
+    match read {
+        CookieAnswer::Refused(refusal) => tell(answer, number_of(refusal), 0),
+        CookieAnswer::Info(s) => {
+            let t = settings_of(settings, s.num_channels);
+            tell_packed(answer, encode_packet_i16(s, t, passage, bytes, scratch))
+        }
     }
 }

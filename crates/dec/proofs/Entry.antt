@@ -2,14 +2,12 @@
 use Prim.Native.Nat.{ℕ, _≤_}
 use mathlib.Core.Path.{_≡_, refl, _∙_}
 use mathlib.Core.Bool.{Bool, true, false, _&&_, _||_}
-use mathlib.Core.List.{List, [], _∷_}
-use mathlib.Core.Logic.{inl, inr}
+use mathlib.Core.List.{List}
 use native.Mathlib.Omega.{arith}
-use borrow.Author.Tests.{leb-true, eqb-true, ne-eqb}
+use borrow.Author.Tests.{leb-true, eqb-true}
 use lib.Dec.{leb, eqb}
 use lib.ListN.{length}
 use lib.IntN.{ℤ, pos}
-use types.Run.{OneOf}
 use Rattle.rules.specs.declared.Place.{Place}
 use Rattle.rules.specs.declared.StreamInfo.{StreamInfo}
 use Rattle.rules.specs.declared.Refusal.{Refusal}
@@ -36,16 +34,6 @@ both false u e = let z : _≡_ {A = ℕ} 0 1 = cc in absurd (omega arith)
 pub room-is : (s : StreamInfo) (o c : ℕ) → roomy s o c ≡ true → (outputPlaces s ≤ o) × (scratchPlaces s ≤ c)
 unfolding roomy
 room-is s o c e = let b = both _ _ e in (leb-true _ _ (b .0), leb-true _ _ (b .1))
-
-pub takes-one : (depth : ℕ) → OneOf (16 ∷ 20 ∷ 24 ∷ 32 ∷ []) depth → true ≡ i32Output .takes depth
-takes-one depth (inl e) = rw e
-takes-one depth (inr (inl e)) = rw e
-takes-one depth (inr (inr (inl e))) = rw e
-takes-one depth (inr (inr (inr e))) = rw e
-
-pub takes-none : (depth : ℕ) → (OneOf (16 ∷ 20 ∷ 24 ∷ 32 ∷ []) depth → ⊥) → false ≡ i32Output .takes depth
-takes-none depth h =
-    rw (ne-eqb depth 16 (λ e. h (inl e)), ne-eqb depth 20 (λ e. h (inr (inl e))), ne-eqb depth 24 (λ e. h (inr (inr (inl e)))), ne-eqb depth 32 (λ e. h (inr (inr (inr e)))))
 
 pub depth-i16 : (depth : ℕ) → i16Output .takes depth ≡ true → (16 ≤ depth) × (depth ≤ 32)
 depth-i16 depth e = let d = eqb-true depth 16 e in (omega arith, omega arith)

@@ -72,9 +72,6 @@ output-untracked w s so-far (bad x p) out = refl
 
 -- ---- channels into their places
 
-pub product-lt : (a b : ℕ) → a < 4294967296 → b < 256 → a * b < 18446744073709551616
-product-lt a b h k = omega (arith, mul-le-mul {n₁ = a} {m₁ = b} {n₂ = 4294967295} {m₂ = 255} (omega arith) (omega arith))
-
 module _ {s : StreamInfo} {so-far k n : ℕ} {scr out : List ℤ} (g : Layable s so-far k n scr out) where
   abbrev half : ℕ
   half = s .«frame_length»

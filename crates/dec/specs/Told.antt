@@ -26,10 +26,6 @@ use Rattle.dec.specs.declared.Judged.the-variants.{Fit, Unfit}
 use Rattle.dec.specs.declared.Step.{Step}
 use Rattle.dec.specs.declared.Step.the-variants.{More, Done}
 
--- the stream is accepted, for every kind of output that has this to say to its depth
-pub record Accepts (s : StreamInfo) (taken r : Bool) : Type 0 where
-  pub says : (w : Width) → taken ≡ w .takes (s .«bit_depth») → r ≡ accepted w s
-
 -- 2, then 3
 unfoldable pub judgement : Width → StreamInfo → ℕ → ℕ → Judged
 judgement w s out scratch = pick (accepted w s) (pick (roomy s out scratch) Fit (Unfit Room)) (Unfit Stream)

@@ -13,7 +13,7 @@ ghost use Rattle.laws.specs.Stored.{stored};
 ghost use Rattle.mix.specs.Halves.{parts};
 ghost use Rattle.turn.specs.Told.{Sane};
 ghost use Rattle.dec.specs.Promise.{Promise};
-ghost use Rattle.dec.specs.Told.{Accepts, Judges, Readable, Layable, Follows, Steppable, Steps, Finished};
+ghost use Rattle.dec.specs.Told.{Judges, Readable, Layable, Follows, Steppable, Steps, Finished};
 use buffers::clear_i16;
 use buffers::clear_i32;
 use buffers::store_i16;
@@ -23,6 +23,9 @@ use rules::Place;
 use rules::Refusal;
 use rules::Samples;
 use rules::StreamInfo;
+use stream::accepted;
+use stream::takes_i16;
+use stream::takes_i32;
 use turn::Element;
 use turn::State;
 use turn::next_element;
@@ -39,55 +42,12 @@ pub enum Judged {
     Unfit(Refusal),
 }
 
-// Every field but the depth, of which each kind of output has its own say.
-fn accepted(s: StreamInfo, taken: bool) -> bool
-    ensures { λ r. ⌜ Accepts s taken r ⌝ }
-{
-    if s.frame_length < 1 {
-        return false;
-    }
-    if s.frame_length > 4096 {
-        return false;
-    }
-    if !taken {
-        return false;
-    }
-    if s.num_channels < 1 {
-        return false;
-    }
-    if s.num_channels > 8 {
-        return false;
-    }
-    if s.kb < 1 {
-        return false;
-    }
-    s.kb <= 31
-}
-
-fn takes_i16(depth: u8) -> bool
-    ensures { λ r. ⌜ r ≡ i16Output .takes depth ⌝ }
-{
-    depth == 16
-}
-
-fn takes_i32(depth: u8) -> bool
-    ensures { λ r. ⌜ r ≡ i32Output .takes depth ⌝ }
-{
-    match depth {
-        16 | 20 | 24 | 32 => true,
-        _ => false,
-    }
-}
-
 fn roomy(s: StreamInfo, out: usize, scratch: usize) -> bool
     ensures { λ r. ⌜ r ≡ reader.roomy s out scratch ⌝ }
 {
     let frame = s.frame_length as usize;
     let channels = s.num_channels as usize;
-    if out < frame * channels {
-        return false;
-    }
-    2 * frame <= scratch
+    (frame * channels <= out) & (2 * frame <= scratch)
 }
 
 // 2, then 3.

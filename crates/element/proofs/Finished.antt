@@ -18,7 +18,8 @@ use Rattle.rules.specs.Element.{extended, withExtra}
 use Rattle.laws.specs.Words.{none, one}
 use Rattle.laws.specs.Shape.{Formed, unmixed-formed, extra-formed}
 use Rattle.mix.specs.Halves.{parts, withParts}
-use Rattle.mix.proofs.Halves.{laid-fits, parts-with, with-with}
+use Rattle.laws.specs.Buffers.{laid-all}
+use Rattle.mix.proofs.Halves.{parts-with, with-with}
 use Rattle.element.specs.Fills.{Roomy}
 
 -- ---- the rules' cases
@@ -65,7 +66,7 @@ module _ (half n : ℕ) where
       let m : w * half ≤ length (drop half scr) = rw length-drop (omega (arith, suc-mul w half)) in
       let e : length (take n scr) ≡ n = length-take-le n scr (omega arith) in
       rw (
-        laid-fits (take n scr) (take half scr) (rw (e, length-take-le half scr k) short),
+        laid-all (take n scr) (take half scr) (rw (e, length-take-le half scr k) short),
         e,
         ← take-take n half scr short,
         take-append-drop n (take half scr),

@@ -16,7 +16,7 @@ use Rattle.rules.specs.Bits.{bitOf, field}
 use Rattle.rules.specs.Buffers.{laid, lanes, pairs}
 use Rattle.rules.specs.Words.{signed}
 use Rattle.laws.specs.Words.{Every, none, one}
-use Rattle.laws.specs.Buffers.{lanes-count, lanes-row, lanes-length}
+use Rattle.laws.specs.Buffers.{laid-all, lanes-count, lanes-row, lanes-length}
 use Rattle.laws.specs.Answers.{answered-got, answered-bad, answered-answered}
 use Rattle.bitcursor.specs.declared.Got.{Got}
 use Rattle.bitcursor.specs.declared.Got.the-variants.{Value, Short}
@@ -25,7 +25,6 @@ use Rattle.bitcursor.specs.declared.Reached.the-variants.{At, Refused}
 use Rattle.bitcursor.specs.Reads.{toldAs, PlainAt, Reads}
 use Rattle.bitcursor.proofs.Laws.{value-of, cut-of, plain-of, reached-of, refused-of, reached-plain-of, refused-plain-of}
 use Rattle.mix.specs.Halves.{parts, withParts}
-use Rattle.mix.proofs.Halves.{laid-fits}
 use Rattle.element.specs.Fills.{Laid, Fills, Roomy}
 use Rattle.element.specs.Raw.{Stores, rowLaid, Rows}
 
@@ -233,7 +232,7 @@ module _ (half : ℕ) where
       let e : length (take n is) ≡ n = length-take-le n is (omega arith) in
       let f : length (take half was) ≡ half = length-take-le half was (omega arith) in
       let low : laid (take n is) (take half was) ≡ take half is =
-      laid-fits (take n is) (take half was) (omega arith) ∙ rw (e, ← k .0, ← take-take n half is short) (take-append-drop n (take half is)) in
+      laid-all (take n is) (take half was) (omega arith) ∙ rw (e, ← k .0, ← take-take n half is short) (take-append-drop n (take half is)) in
       let high = kept-laid n w (drop half was) (drop half is) short (rw length-drop (omega arith)) (rw (length-drop, length-drop, same)) (k .1) in
       sym (ap₂ _++_ low (sym high) ∙ take-append-drop half is)
 

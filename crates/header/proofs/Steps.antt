@@ -3,7 +3,7 @@ use Prim.Native.Nat.{ℕ, zero, suc, _-_, _*_, _^_, _≤_, _<_}
 use mathlib.Core.Path.{_≡_, refl, sym, ap, _∙_}
 use mathlib.Core.Bool.{Bool, true, false, _&&_, and-eq-true-iff}
 use mathlib.Core.List.{List, [], _∷_, map, reverseAux}
-use native.Mathlib.Nat.{sub-zero, mul-le-mul}
+use native.Mathlib.Nat.{mul-le-mul}
 use native.Mathlib.Omega.{arith}
 use lib.ListN.{length, take, drop, set, replicate, length-set, length-replicate}
 use lib.Seq.{drop-cons, drop-set-lt, getD-set-same}
@@ -20,6 +20,7 @@ use Rattle.rules.specs.Bits.{bitOf, field}
 use Rattle.rules.specs.Words.{signed, isZero}
 use Rattle.rules.specs.Element as rule
 use Rattle.laws.specs.Answers.{answered-answered}
+use Rattle.laws.specs.Buffers.{drop-replicate}
 use Rattle.bitcursor.specs.declared.Reached.{Reached}
 use Rattle.bitcursor.specs.declared.Reached.the-variants.{At, Refused}
 use Rattle.bitcursor.specs.Reads.{toldAs, PlainAt, Reaches}
@@ -61,11 +62,6 @@ number-partial bits s (suc partial) p h = refl
 -- ---- the coefficients
 
 module _ {A : Type 0} where
-  drop-replicate : (n m : ℕ) (a : A) → n ≤ m → drop n (replicate m a) ≡ replicate (m - n) a
-  drop-replicate zero m a h = rw sub-zero
-  drop-replicate (suc n) zero a h = absurd (omega arith)
-  drop-replicate (suc n) (suc m) a h = let e : suc m - suc n ≡ m - n = omega arith in rw e (drop-replicate n m a (omega arith))
-
   -- one more before those in place
   take-set : (n k : ℕ) (l : List A) (a : A) → k < n → k < length l → take (n - k) (drop k (set l k a)) ≡ a ∷ take (n - suc k) (drop (suc k) l)
   take-set n k l a h i =

@@ -47,7 +47,7 @@ stream = record {
 settings : PackingSettings
 settings =
     let one : ChannelSettings = record { «pb_factor» = 4; quant = 9; order = 0; coefs = replicate 30 (pos 0) } in
-    record { «mix_bits» = 0; «mix_res» = 0; channels = one ∷ one ∷ [] }
+    record { «mix_bits» = 0; «mix_res» = 0; first = one; second = one }
 
 -- `00 00 00 00 00 13 01`, and a last byte or two
 packetOf : List ℕ → List ℕ

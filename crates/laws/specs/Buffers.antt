@@ -2,10 +2,10 @@
 use Prim.Native.Nat.{ℕ, zero, suc, _+_, _-_, _*_, _≤_}
 use mathlib.Core.Path.{_≡_, refl, sym, ap, ap₂, _∙_}
 use mathlib.Core.List.{List, [], _∷_, _++_, map, map-map}
-use native.Mathlib.Nat.{zero-add, add-zero, add-suc, suc-add, suc-mul}
+use native.Mathlib.Nat.{sub-zero, zero-add, add-zero, add-suc, suc-add, suc-mul}
 use native.Mathlib.Omega.{arith}
-use lib.ListN.{length, take, drop, length-append, length-take, length-drop, length-map, take-append-drop}
-use lib.Seq.{take-all, length-take-le}
+use lib.ListN.{length, take, drop, replicate, length-append, length-take, length-drop, length-map, take-append-drop}
+use lib.Seq.{take-all, length-take-le, drop-append-add, drop-drop}
 use Rattle.rules.specs.Buffers.{laid, heads, tails, interleaved, every, lane, upTo, lanes, pairs}
 use Rattle.laws.specs.Words.{Every, none, one}
 
@@ -19,6 +19,22 @@ module _ {A : Type 0} (xs was : List A) where
   pub laid-all : length xs ≤ length was → laid xs was ≡ xs ++ drop (length xs) was
   unfolding laid
   laid-all h = rw (take-all (length was) xs h)
+
+  drop-laid : (k : ℕ) → length xs ≤ k → length xs ≤ length was → drop k (laid xs was) ≡ drop k was
+  drop-laid k h l =
+      let e : k ≡ length xs + (k - length xs) = omega arith in
+      rw (laid-all l, e, drop-append-add, drop-drop)
+
+-- over the same places the last wins
+pub laid-laid : {A : Type 0} (xs ys was : List A) → length xs ≤ length ys → length ys ≤ length was → laid ys (laid xs was) ≡ laid ys was
+laid-laid xs ys was h k =
+    let l : length ys ≤ length (laid xs was) = rw laid-length k in
+    rw (laid-all ys (laid xs was) l, laid-all ys was k, drop-laid xs was (length ys) h (omega arith))
+
+pub drop-replicate : {A : Type 0} (n m : ℕ) (a : A) → n ≤ m → drop n (replicate m a) ≡ replicate (m - n) a
+drop-replicate zero m a h = rw sub-zero
+drop-replicate (suc n) zero a h = absurd (omega arith)
+drop-replicate (suc n) (suc m) a h = let e : suc m - suc n ≡ m - n = omega arith in rw e (drop-replicate n m a (omega arith))
 
 -- ---- pairs
 

@@ -18,18 +18,18 @@ use Rattle.rules.specs.Answers.{got, pick, bind, Read, times, each}
 use Rattle.rules.specs.Bits.{digits, bitsOf, within, field, skipToByte, toEdge}
 use Rattle.rules.specs.Words.{modZ, signed, isZero}
 use Rattle.rules.specs.Stream.{factor}
-use Rattle.rules.specs.Buffers.{interleaved, lanes, pairs}
+use Rattle.rules.specs.Buffers.{lanes, pairs}
 use Rattle.rules.specs.Element.{Sound, Channel, Header, Params, Plan, numbers, paramsOk, mixOk, allOf, withExtra, extraBits, channelOf, assembled, sampleNumber, params, channel, planned, compressed, header, audioElement}
 use Rattle.rules.specs.Packet.{audio, agrees, followed, onward, soundElement, endElement, tagged, turn, run, packet}
 use Rattle.rules.specs.Writer.{settingsUsed, writtenBits, coefsUsed, joined, paramBits, countBits, headBits, channelCode, channelCodes, packetBits, packetBytes}
 use Rattle.laws.specs.Bits.{length-digits, At, at-first, at-next, at-mid, next-field, field-digits, bits-padded}
 use Rattle.laws.specs.Words.{InBits, Every, none, one, AllIn, all-in-more, modZ-lt, signed-modZ}
-use Rattle.laws.specs.Buffers.{map-pairs, pairs-second, lanes-count, lanes-length, every-lane, interleaved-lanes}
+use Rattle.laws.specs.Buffers.{map-pairs, pairs-second, lanes-count, lanes-length, every-lane}
 use Rattle.laws.specs.Rice.{folded-lt, Ranged, rice-back}
 use Rattle.laws.specs.Prediction.{predicted-residuals, residuals-in, residuals-length}
 use Rattle.laws.specs.Mix.{unmixed-mixed}
 use Rattle.laws.specs.Packet.{enough-turns}
-use Rattle.laws.specs.Writer.{ChannelTold, samplesOf, Told, Writable, told, mixedLanes, mixed-lanes-count, mixed-lanes-length, mixed-lanes-in, written-bits, residualsOf, bin-packet}
+use Rattle.laws.specs.Writer.{ChannelFits, Held, samplesOf, Told, Writable, told, channels-fit, mixedLanes, mixed-lanes-count, mixed-lanes-length, mixed-lanes-in, written-bits, residualsOf, bin-packet}
 
 -- ---- the header
 
@@ -105,14 +105,14 @@ coefs-again (one {x = x} h hs) = ap₂ _∷_ (signed-modZ 16 x (omega arith) h) 
 abbrev paramsOf : StreamInfo → ChannelSettings → Params
 paramsOf s c = record { mode = 0; quant = c .quant; factor = factor s (c .«pb_factor»); coefs = reverse (coefsUsed c) }
 
-params-at : {bits : List ℕ} (s : StreamInfo) (c : ChannelSettings) (p : ℕ) → ChannelTold s c → At bits p (paramBits c)
+params-at : {bits : List ℕ} (s : StreamInfo) (c : ChannelSettings) (p : ℕ) → ChannelFits s c → At bits p (paramBits c)
     → params bits s p ≡ got (paramsOf s c) (p + length (paramBits c))
 unfolding params paramBits bind
 params-at {bits} s c p h at =
     let f1 = next-field 4 0 _ (lit< tt) at in
-    let f2 = next-field 4 (c .quant) _ (omega (arith, h .quant-le)) (f1 .1) in
-    let f3 = next-field 3 (c .«pb_factor») _ (omega (arith, h .pb-factor-le)) (f2 .1) in
-    let f4 = next-field 5 (c .order) _ (omega (arith, h .order-le)) (f3 .1) in
+    let f2 = next-field 4 (c .quant) _ (omega (arith, h .told .quant-le)) (f1 .1) in
+    let f3 = next-field 3 (c .«pb_factor») _ (omega (arith, h .told .pb-factor-le)) (f2 .1) in
+    let f4 = next-field 5 (c .order) _ (omega (arith, h .told .order-le)) (f3 .1) in
     let cs = times-back (field bits 16) coefBits (modZ (2 ^ 16)) (InBits 16) coef-at (h .coefs-in) (f4 .1) in
     rw (f1 .0, f2 .0, f3 .0, f4 .0, rw (h .coefs-used) at cs, coefs-again (h .coefs-in))
     (ap (got (paramsOf s c)) (simp (length-append, length-digits) (omega arith)))
@@ -120,13 +120,13 @@ params-at {bits} s c p h at =
 -- ---- the plan
 
 -- no cause 11
-params-ok : (s : StreamInfo) (c : ChannelSettings) → ChannelTold s c → paramsOk (paramsOf s c) ≡ true
+params-ok : (s : StreamInfo) (c : ChannelSettings) → ChannelFits s c → paramsOk (paramsOf s c) ≡ true
 unfolding paramsOk
 params-ok s c h =
-    let o : length (reverse (coefsUsed c)) ≤ 30 = omega (arith, length-reverse (coefsUsed c), h .coefs-used, h .order-le) in
-    rw (lt-ltb 0 (c .quant) (h .quant-ge), lt-ltb (length (reverse (coefsUsed c))) 31 (omega arith), le-leb (factor s (c .«pb_factor»)) 127 (h .factor-le))
+    let o : length (reverse (coefsUsed c)) ≤ 30 = omega (arith, length-reverse (coefsUsed c), h .coefs-used, h .told .order-le) in
+    rw (lt-ltb 0 (c .quant) (h .told .quant-ge), lt-ltb (length (reverse (coefsUsed c))) 31 (omega arith), le-leb (factor s (c .«pb_factor»)) 127 (h .told .factor-le))
 
-all-params-ok : (s : StreamInfo) {cs : List ChannelSettings} → Every (ChannelTold s) cs → allOf paramsOk (map (paramsOf s) cs) ≡ true
+all-params-ok : (s : StreamInfo) {cs : List ChannelSettings} → Every (ChannelFits s) cs → allOf paramsOk (map (paramsOf s) cs) ≡ true
 unfolding allOf
 all-params-ok s none = refl
 all-params-ok s (one {x = c} h hs) = rw (params-ok s c h, all-params-ok s hs)
@@ -150,13 +150,13 @@ abbrev planOf : StreamInfo → ℕ → ℕ → List ChannelSettings → Plan
 planOf s mixBits mixRes cs = record { mixBits = mixBits; mixRes = pos mixRes; params = map (paramsOf s) cs }
 
 planned-at : {bits : List ℕ} {p : ℕ} (s : StreamInfo) (mixBits mixRes : ℕ) {cs : List ChannelSettings} → mixBits ≤ 7 → mixRes ≤ 127
-    → Every (ChannelTold s) cs → At bits p (planBits mixBits mixRes cs)
+    → Every (ChannelFits s) cs → At bits p (planBits mixBits mixRes cs)
     → planned bits s (length cs) p ≡ got (planOf s mixBits mixRes cs) (p + length (planBits mixBits mixRes cs))
 unfolding planned bind
 planned-at {bits} {p} s mixBits mixRes {cs} lb lr hs at =
     let f1 = next-field 8 mixBits _ (omega arith) at in
     let f2 = next-field 8 mixRes _ (omega arith) (f1 .1) in
-    let ps = times-back (params bits s) paramBits (paramsOf s) (ChannelTold s) (params-at s) hs (f2 .1) in
+    let ps = times-back (params bits s) paramBits (paramsOf s) (ChannelFits s) (params-at s) hs (f2 .1) in
     rw (f1 .0, f2 .0, ps, signed-res mixRes lr, all-params-ok s hs, mix-ok (length cs) mixBits (pos mixRes) (omega arith))
     (ap (got (planOf s mixBits mixRes cs)) (simp (length-append, length-digits) (omega arith)))
 
@@ -242,7 +242,7 @@ module _ (s : StreamInfo) (t : PackingSettings) (passage : List ℤ) where
   unfolding packetBits headBits
   packet-parts = simp append-assoc
 
-  module _ (facts : Told s t passage) where
+  module _ (facts : Told s t passage) (held : Held s t) (samples : AllIn 16 passage) where
     used-count : length cs ≡ length (mixedLanes s t passage)
     used-count = facts .used ∙ sym (mixed-lanes-count s t passage)
 
@@ -253,7 +253,7 @@ module _ (s : StreamInfo) (t : PackingSettings) (passage : List ℤ) where
         let values = map-pairs (λ c. c .values) (heard s b) cs xss ∙ pairs-second cs xss used-count in
         let tracks = map-pairs (λ c. c .track) (heard s b) cs xss ∙ sym (map-pairs (λ c. c .track) (channelCode s b) cs xss) in
         let long : Every (λ xs. length xs ≡ n) (lanes channels passage) = lanes-length n channels passage (facts .channels-ge) (facts .rows) in
-        let small : Every (AllIn 32) (lanes channels passage) = every-lane channels (all-in-more 16 32 (omega arith) (facts .samples-in)) in
+        let small : Every (AllIn 32) (lanes channels passage) = every-lane channels (all-in-more 16 32 (omega arith) samples) in
         rw (values, tracks, unmixed-mixed (t .«mix_bits») (pos (t .«mix_res»)) n long small)
 
     compressed-at : {bits : List ℕ} {p : ℕ} → At bits p (planPart ++ codePart)
@@ -263,8 +263,8 @@ module _ (s : StreamInfo) (t : PackingSettings) (passage : List ℤ) where
         let at′ : At bits (p + length planPart) codePart = at-next planPart codePart at in
         let fit : (1 ≤ b) × (b ≤ 17) = written-bits s t passage facts in
         let few : n ≤ 2 ^ 16 = omega (arith, facts .rows-le, facts .frame-le) in
-        let planRead = planned-at s (t .«mix_bits») (t .«mix_res») (facts .mix-bits-le) (facts .mix-res-le) (facts .channels-in) (at-first planPart codePart at) in
-        let channelsRead = channels-at bits s n b (facts .kb-ge) (fit .0) (omega arith) few cs used-count (mixed-lanes-length s t passage facts) (mixed-lanes-in s t passage facts) at′ in
+        let planRead = planned-at s (t .«mix_bits») (t .«mix_res») (facts .mix-bits-le) (facts .mix-res-le) (channels-fit s t passage facts held) (at-first planPart codePart at) in
+        let channelsRead = channels-at bits s n b (facts .kb-ge) (fit .0) (omega arith) few cs used-count (mixed-lanes-length s t passage facts) (mixed-lanes-in s t passage facts samples) at′ in
         rw (le-leb b 32 (omega arith), lt-ltb 0 b (fit .0), rw (facts .used) at planRead, extra-at bits (n * channels) (p + length planPart) (omega (arith, at′ .fits)), channelsRead)
         (ap₂ got (assembled-back _) (omega (arith, length-append planPart codePart)))
 
@@ -299,7 +299,7 @@ module _ (bits : List ℕ) (s : StreamInfo) where
   end-at {p} so-far n most l at fit =
       rw (field-digits {p = p} 3 7 (lit< tt) at, edge-at (p + 3) fit, le-leb (s .«num_channels») so-far l)
 
-module _ (s : StreamInfo) (t : PackingSettings) (passage : List ℤ) (facts : Told s t passage) where
+module _ (s : StreamInfo) (t : PackingSettings) (passage : List ℤ) (facts : Told s t passage) (held : Held s t) (samples : AllIn 16 passage) where
   abbrev sound : Sound
   sound = soundOf s t passage
 
@@ -311,7 +311,7 @@ module _ (s : StreamInfo) (t : PackingSettings) (passage : List ℤ) (facts : To
   turn-at {bits} {p} at =
       let c : ℕ = s .«num_channels» in
       let tag = next-field 3 (c - 1) _ (omega (arith, facts .channels-le)) at in
-      rw (tag .0, tag-at bits s 0 Open c (p + 3) (facts .channels-ge) (facts .channels-le), le-leb (0 + c) c (omega arith), audio-at s t passage facts (tag .1))
+      rw (tag .0, tag-at bits s 0 Open c (p + 3) (facts .channels-ge) (facts .channels-le), le-leb (0 + c) c (omega arith), audio-at s t passage facts held samples (tag .1))
       (ap (got (audio sound)) (simp (length-append, length-digits) (omega arith)))
 
   -- the element, and END
@@ -343,16 +343,10 @@ module _ (s : StreamInfo) (t : PackingSettings) (passage : List ℤ) (facts : To
       ∙ turns-at (length bits / 3) (at-first v z (at-mid [] (v ++ z) later)) fit
       ∙ ap (got sound) place
 
-module _ (s : StreamInfo) (t : PackingSettings) (passage : List ℤ) (w : Writable s t passage) where
+module _ (s : StreamInfo) (t : PackingSettings) (passage : List ℤ) (w : Writable s t passage) (held : Held s t) (samples : AllIn 16 passage) where
   -- the packet, with anything after it, is read to the passage's channels, with the writer's history and coefficients after every sample
   pub packet-back : (later : List ℕ)
       → packet (bitsOf (packetBytes s t passage) ++ later) s ≡ got (soundOf s t passage) (length (bitsOf (packetBytes s t passage)))
   unfolding packetBytes
   packet-back later =
-      rw (bits-padded (packetBits s t passage) (bin-packet s t passage), packet-parts s t passage) (packet-at s t passage (told s t passage w) later)
-
-  -- these channels, sample by sample, are the passage
-  pub passage-back : interleaved (soundOf s t passage .samples) (soundOf s t passage .chans) ≡ passage
-  passage-back =
-      let facts = told s t passage w in
-      interleaved-lanes (samplesOf s passage) (s .«num_channels») passage (facts .channels-ge) (facts .rows)
+      rw (bits-padded (packetBits s t passage) (bin-packet s t passage), packet-parts s t passage) (packet-at s t passage (told s t passage w) held samples later)

@@ -3,7 +3,7 @@ use Prim.Native.Nat.{ℕ, zero, suc, _+_, _-_, _*_, _/_, _%_, _^_, _≤_, _<_}
 use mathlib.Core.Path.{_≡_, refl, sym, ap, _∙_}
 use mathlib.Core.Bool.{Bool, true, false, cond}
 use mathlib.Core.List.{List, [], _∷_}
-use native.Mathlib.Nat.{le-refl, mod-lt, mod-eq-of-lt, add-mod, add-mul, suc-mul, mul-one, mul-assoc, mul-le-mul-left, div-add-mod', div-lt-iff-lt-mul, add-mul-mod-self-right, pow-suc, lt-of-lt-of-le}
+use native.Mathlib.Nat.{le-refl, mod-lt, mod-eq-of-lt, add-mod, add-mul, suc-mul, mul-one, mul-assoc, mul-le-mul, mul-le-mul-left, div-add-mod', div-lt-iff-lt-mul, add-mul-mod-self-right, pow-suc, lt-of-lt-of-le}
 use native.Mathlib.Omega.{arith}
 use borrow.Author.Tests.{ltb-true, ltb-false, lt-ltb, le-ltb}
 use lib.Dec.{ltb}
@@ -224,3 +224,8 @@ undone b p s h k f =
     ∙ wrap-in-r b b p (s -ℤ p) (le-refl b)
     ∙ ap (wrap b) (difference-added p s)
     ∙ wrap-id b s h f
+
+-- ---- a word times a byte
+
+pub product-lt : (a b : ℕ) → a < 4294967296 → b < 256 → a * b < 18446744073709551616
+product-lt a b h k = omega (arith, mul-le-mul {n₁ = a} {m₁ = b} {n₂ = 4294967295} {m₂ = 255} (omega arith) (omega arith))

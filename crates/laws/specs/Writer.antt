@@ -7,7 +7,7 @@ use native.Mathlib.Nat.{mul-comm, mul-le-mul, div-add-mod', div-le-of-le-mul}
 use native.Mathlib.Omega.{arith}
 use borrow.Author.Tests.{leb-true, eqb-true}
 use lib.Dec.{leb, ltb, eqb}
-use lib.ListN.{length, take, length-append}
+use lib.ListN.{length, take, length-append, length-take}
 use lib.Seq.{length-take-le}
 use lib.IntN.{ℤ, pos}
 use Rattle.rules.specs.declared.StreamInfo.{StreamInfo}
@@ -32,23 +32,22 @@ use Rattle.laws.specs.Length.{rice-length, bin-rice}
 
 -- ---- what is given
 
--- what the fields' types say: thirty coefficients of 16 bits, a byte, two channels
+-- a passage that the writer's tests let through
+pub record Writable (s : StreamInfo) (t : PackingSettings) (passage : List ℤ) : Type 0 where
+  pub mb-byte : s .mb < 256
+  pub reader : accepted i32Output s ≡ true
+  pub ranges : inRange s t ≡ true
+  pub fits : passageFits s t passage ≡ true
+
+-- what the fields' types say: thirty coefficients of 16 bits, a byte
 pub record HeldChannel (c : ChannelSettings) : Type 0 where
   pub thirty : length (c .coefs) ≡ 30
   pub words : AllIn 16 (c .coefs)
 
 pub record Held (s : StreamInfo) (t : PackingSettings) : Type 0 where
   pub mb-byte : s .mb < 256
-  pub two : length (t .channels) ≡ 2
-  pub each : Every HeldChannel (t .channels)
-
--- a passage that the writer's tests let through
-pub record Writable (s : StreamInfo) (t : PackingSettings) (passage : List ℤ) : Type 0 where
-  pub held : Held s t
-  pub reader : accepted i32Output s ≡ true
-  pub ranges : inRange s t ≡ true
-  pub fits : passageFits s t passage ≡ true
-  pub samples : AllIn 16 passage
+  pub one : HeldChannel (t .first)
+  pub two : HeldChannel (t .second)
 
 -- ---- what the tests say
 
@@ -59,8 +58,6 @@ pub record ChannelTold (s : StreamInfo) (c : ChannelSettings) : Type 0 where
   pub quant-ge : 1 ≤ c .quant
   pub quant-le : c .quant ≤ 15
   pub order-le : c .order ≤ 30
-  pub coefs-used : length (coefsUsed c) ≡ c .order
-  pub coefs-in : AllIn 16 (coefsUsed c)
 
 -- how many samples each channel has
 abbrev pub samplesOf : StreamInfo → List ℤ → ℕ
@@ -83,7 +80,12 @@ pub record Told (s : StreamInfo) (t : PackingSettings) (passage : List ℤ) : Ty
   pub mix-res-low : t .«mix_res» ≤ 2 ^ t .«mix_bits»
   pub rows : length passage ≡ samplesOf s passage * s .«num_channels»
   pub rows-le : samplesOf s passage ≤ s .«frame_length»
-  pub samples-in : AllIn 16 passage
+
+-- of a channel that is there, with what its type says
+pub record ChannelFits (s : StreamInfo) (c : ChannelSettings) : Type 0 where
+  pub told : ChannelTold s c
+  pub coefs-used : length (coefsUsed c) ≡ c .order
+  pub coefs-in : AllIn 16 (coefsUsed c)
 
 module _ {A : Type 0} where
   every-take : {P : A → Type 0} (n : ℕ) {xs : List A} → Every P xs → Every P (take n xs)
@@ -95,12 +97,12 @@ module _ {A : Type 0} where
   every-both f none none = none
   every-both f (one {x = x} p ps) (one q qs) = one (f x p q) (every-both f ps qs)
 
-  all-of-each : (ok : A → Bool) (xs : List A) → allOf ok xs ≡ true → Every (λ x. ok x ≡ true) xs
+  each-of-all : {Q : A → Type 0} (ok : A → Bool) → ((x : A) → ok x ≡ true → Q x) → (xs : List A) → allOf ok xs ≡ true → Every Q xs
   unfolding allOf
-  all-of-each ok [] e = none
-  all-of-each ok (x ∷ xs) e =
+  each-of-all ok f [] e = none
+  each-of-all ok f (x ∷ xs) e =
       let p = and-parts (ok x) (allOf ok xs) e in
-      one (p .0) (all-of-each ok xs (p .1))
+      one (f x (p .0)) (each-of-all ok f xs (p .1))
 
 -- tests joined by `&&`, one after the other
 abbrev chain : Bool → List Bool → Bool
@@ -119,19 +121,16 @@ chain-passed a (b ∷ bs) e =
     (p .0, (p .1, r .1))
 
 module _ (s : StreamInfo) where
-  channel-told : (c : ChannelSettings) → HeldChannel c → channelInRange s c ≡ true → ChannelTold s c
+  channel-told : (c : ChannelSettings) → channelInRange s c ≡ true → ChannelTold s c
   unfolding channelInRange
-  channel-told c h e =
+  channel-told c e =
       let p = chain-passed (leb (c .«pb_factor») 7) (leb (factor s (c .«pb_factor»)) 127 ∷ leb 1 (c .quant) ∷ leb (c .quant) 15 ∷ leb (c .order) 30 ∷ []) e in
-      let o : c .order ≤ 30 = leb-true (c .order) 30 (p .1 .1 .1 .1 .0) in
       record {
         pb-factor-le = leb-true (c .«pb_factor») 7 (p .0);
         factor-le = leb-true (factor s (c .«pb_factor»)) 127 (p .1 .0);
         quant-ge = leb-true 1 (c .quant) (p .1 .1 .0);
         quant-le = leb-true (c .quant) 15 (p .1 .1 .1 .0);
-        order-le = o;
-        coefs-used = length-take-le (c .order) (c .coefs) (omega arith);
-        coefs-in = every-take (c .order) (h .words);
+        order-le = leb-true (c .order) 30 (p .1 .1 .1 .1 .0);
       }
 
   module _ (t : PackingSettings) (passage : List ℤ) where
@@ -152,7 +151,7 @@ module _ (s : StreamInfo) where
         let two : channels ≤ 2 = leb-true channels 2 (r .1 .0) in
         let low : mixRes ≤ min 127 (2 ^ mixBits) = leb-true mixRes (min 127 (2 ^ mixBits)) (m .1 .0) in
         record {
-          mb-lt = w .held .mb-byte;
+          mb-lt = w .mb-byte;
           depth = eqb-true depth 16 (r .0);
           channels-ge = leb-true 1 channels (a .1 .1 .1 .0);
           channels-le = two;
@@ -160,15 +159,20 @@ module _ (s : StreamInfo) where
           kb-le = leb-true (s .kb) 31 (r .1 .1 .1 .0);
           frame-ge = leb-true 1 frame (a .0);
           frame-le = leb-true frame 4096 (a .1 .0);
-          used = length-take-le channels (t .channels) (omega (arith, w .held .two));
-          channels-in = every-both channel-told (every-take channels (w .held .each)) (all-of-each (channelInRange s) (settingsUsed s t) (r .1 .1 .1 .1 .0));
+          used = length-take-le channels (t .first ∷ t .second ∷ []) two;
+          channels-in = each-of-all (channelInRange s) channel-told (settingsUsed s t) (r .1 .1 .1 .1 .0);
           mix-bits-le = leb-true mixBits 7 (m .0);
           mix-res-le = omega arith;
           mix-res-low = omega arith;
           rows = omega (arith, div-add-mod' (length passage) channels, eqb-true (length passage % channels) 0 (p .1 .0));
           rows-le = div-le-of-le-mul channels (omega (arith, leb-true (length passage) (frame * channels) (p .0), mul-comm frame channels));
-          samples-in = w .samples;
         }
+
+    pub channels-fit : Told s t passage → Held s t → Every (ChannelFits s) (settingsUsed s t)
+    channels-fit f h = every-both fit (f .channels-in) (every-take (s .«num_channels») (one (h .one) (one (h .two) none)))
+      where
+        fit : (c : ChannelSettings) → ChannelTold s c → HeldChannel c → ChannelFits s c
+        fit c k g = record { told = k; coefs-used = length-take-le (c .order) (c .coefs) (omega (arith, k .order-le, g .thirty)); coefs-in = every-take (c .order) (g .words) }
 
 -- ---- the mixed channels
 
@@ -210,13 +214,13 @@ module _ (s : StreamInfo) (t : PackingSettings) (passage : List ℤ) where
         mixed-length (t .«mix_bits») (pos (t .«mix_res»)) n (lanes-length n (s .«num_channels») passage (facts .channels-ge) (facts .rows))
 
     -- each sample has the bits that the element gives it
-    pub mixed-lanes-in : Every (AllIn (writtenBits s t)) mixedLanes
-    mixed-lanes-in =
+    pub mixed-lanes-in : AllIn 16 passage → Every (AllIn (writtenBits s t)) mixedLanes
+    mixed-lanes-in samples =
         let d : ℕ = s .«bit_depth» in
         let channels : ℕ = s .«num_channels» in
         let fit : (1 ≤ d) × (d ≤ 24) = omega (arith, facts .depth) in
         let e : d + length (lanes channels passage) - 1 ≡ writtenBits s t = omega (arith, lanes-count channels passage) in
-        let i : AllIn d passage = rw (facts .depth) (facts .samples-in) in
+        let i : AllIn d passage = rw (facts .depth) samples in
         rw e at (mixed-in d (t .«mix_bits») (t .«mix_res») (fit .0) (fit .1) (facts .mix-res-le) (facts .mix-res-low) (every-lane channels i))
 
     pub written-bits : (1 ≤ writtenBits s t) × (writtenBits s t ≤ 17)
@@ -303,7 +307,7 @@ head-length channels n frame mixBits mixRes = simp (length-append, length-digits
 
 module _ (s : StreamInfo) (b : ℕ) (mb-lt : s .mb < 256) (b-le : b ≤ 17) where
   -- a symbol of at most 26 bits a sample, and a run of at most 25
-  channel-length : (c : ChannelSettings) (xs : List ℤ) → ChannelTold s c → length (channelCode s b c xs .bits) ≤ 51 * length xs
+  pub channel-length : (c : ChannelSettings) (xs : List ℤ) → ChannelTold s c → length (channelCode s b c xs .bits) ≤ 51 * length xs
   unfolding channelCode
   channel-length c xs h =
       let es : List ℤ = residualsOf b c xs .values in
@@ -316,14 +320,14 @@ module _ (s : StreamInfo) (b : ℕ) (mb-lt : s .mb < 256) (b-le : b ≤ 17) wher
   unfolding joined pairs bitLimit
   channels-length n none ls = omega arith
   channels-length n (one {x = c} {xs = cs} h hs) none =
-      omega (arith, channels-length n hs none, length-append (paramBits c) (joined (map paramBits cs)), params-length c, h .coefs-used)
+      omega (arith, channels-length n hs none, length-append (paramBits c) (joined (map paramBits cs)), params-length c, h .order-le, length-take (c .order) (c .coefs))
   channels-length n (one {x = c} {xs = cs} h hs) (one {x = xs} {xs = xss} l ls) =
       omega (
         arith,
         channels-length n hs ls,
         length-append (paramBits c) (joined (map paramBits cs)),
         params-length c,
-        h .coefs-used,
+        length-take (c .order) (c .coefs),
         length-append (channelCode s b c xs .bits) (joined (map (λ c. c .bits) (pairs (channelCode s b) cs xss))),
         channel-length c xs h,
       )

@@ -1,10 +1,11 @@
--- What the functions of this crate ask for, and what prediction leaves in the buffers that it is lent.
+-- What the functions of this crate ask for, and what prediction and the residuals leave in the buffers that they are lent.
 use Prim.Native.Nat.{ℕ, _≤_, _<_}
 use mathlib.Core.Path.{_≡_}
-use mathlib.Core.List.{List, [], _∷_}
-use lib.ListN.{length}
+use mathlib.Core.List.{List, [], _∷_, _++_}
+use lib.ListN.{length, take}
 use lib.IntN.{ℤ}
 use Rattle.rules.specs.Prediction.{predicted}
+use Rattle.rules.specs.Writer as writer
 
 -- a sample has 1..32 bits
 pub record Width (b : ℕ) : Type 0 where
@@ -52,3 +53,8 @@ module _ {A : Type 0} where
 pub record Predicts (b quant : ℕ) (cs buf cs′ buf′ : List ℤ) : Type 0 where
   pub samples : buf′ ≡ predicted b quant [] cs buf .values
   pub coefficients : cs′ ≡ lastOr cs (predicted b quant [] cs buf .coefs)
+
+-- the residuals of n samples stand after them, and the coefficients are those after the last
+pub record Leaves (b quant n : ℕ) (cs buf cs′ buf′ : List ℤ) : Type 0 where
+  pub residuals : buf′ ≡ take n buf ++ writer.residuals b quant [] cs (take n buf) .values
+  pub coefficients : cs′ ≡ lastOr cs (writer.residuals b quant [] cs (take n buf) .coefs)

@@ -1,10 +1,12 @@
-// Prediction: samples in the place of residuals. Samples and coefficients are oldest first.
+// Prediction: samples in the place of residuals, and the residuals that it undoes. Samples and coefficients are oldest first.
 ghost use mathlib.Core.Path.{_≡_};
+ghost use Prim.Native.Nat.{_+_};
 ghost use lib.IntN.{pos};
-ghost use lib.ListN.{length, take};
+ghost use lib.ListN.{length, take, getD};
 ghost use Rattle.rules.specs.Words.{mul32, sign};
 ghost use Rattle.rules.specs.Prediction.{weighed, guess, errorLeft, adapted, forecast, coefsAfter, summed};
-ghost use Rattle.lpc.specs.Predicts.{Width, Window, Loss, Ready, Later, Tuned, Predicts};
+ghost use Rattle.rules.specs.Writer.{residual};
+ghost use Rattle.lpc.specs.Predicts.{Width, Window, Loss, Ready, Later, Tuned, Predicts, Leaves};
 
 // Mode 15, which the Rust calls order 31: what was read are differences, each added to the sum before it. Prediction follows all the same.
 pub fn lpc_predict_order_31(buf: &mut [i32], bps: u32)
@@ -122,5 +124,32 @@ pub fn lpc_predict(buf: &mut [i32], bps: u32, lpc_coefs: &mut [i16], lpc_quant: 
         let extended = words::sign_extend(sample, bps);
         buf[i] = extended;
         adapt_at(&buf[..], i, error, lpc_quant, lpc_coefs);
+    }
+}
+
+// The residual of the sample at `i`, which the reader's prediction undoes. Sample 0 is its own.
+fn residual_at(buf: &[i32], i: usize, bps: u32, lpc_coefs: &[i16], lpc_quant: u32) -> i32
+    requires { ⌜ Width bps ⌝ }
+    requires { ⌜ Ready «lpc_quant» i (now buf) (now «lpc_coefs») ⌝ }
+    ensures { λ r. ⌜ r ≡ residual bps «lpc_quant» (take i (now (buf .entry))) (now («lpc_coefs» .entry)) (getD (now (buf .entry)) i (pos 0)) ⌝ }
+{
+    if i == 0 {
+        return buf[0];
+    }
+    let predicted = forecast_at(buf, i, lpc_coefs, lpc_quant);
+    let difference = words::wrapping_sub_i32(buf[i], predicted);
+    words::sign_extend(difference, bps)
+}
+
+// The residuals of the samples in the first half of `buf`, into its second half.
+pub fn lpc_residuals(buf: &mut [i32], n: usize, bps: u32, lpc_coefs: &mut [i16], lpc_quant: u32)
+    requires { ⌜ Tuned bps «lpc_quant» (now «lpc_coefs») ⌝ }
+    requires { ⌜ length (now buf) ≡ n + n ⌝ }
+    ensures { λ _. ⌜ Leaves bps «lpc_quant» n (now («lpc_coefs» .entry)) (now (buf .entry)) (now («lpc_coefs» .exit)) (now (buf .exit)) ⌝ }
+{
+    for i in 0..n {
+        let residual = residual_at(&buf[..], i, bps, &lpc_coefs[..], lpc_quant);
+        buf[n + i] = residual;
+        adapt_at(&buf[..], i, residual, lpc_quant, lpc_coefs);
     }
 }

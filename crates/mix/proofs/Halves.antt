@@ -10,29 +10,8 @@ use lib.IntN.{ℤ}
 use borrow.Rule.Slice.PartMut.{putMid}
 use Rattle.rules.specs.Buffers.{laid}
 use Rattle.laws.specs.Words.{Every, none, one}
+use Rattle.laws.specs.Buffers.{laid-length, laid-all, laid-laid}
 use Rattle.mix.specs.Halves.{parts, withParts}
-
--- ---- laid
-
-module _ {A : Type 0} where
-  pub laid-fits : (xs was : List A) → length xs ≤ length was → laid xs was ≡ xs ++ drop (length xs) was
-  unfolding laid
-  laid-fits xs was h = rw (take-all (length was) xs h)
-
-  length-laid : (xs was : List A) → length (laid xs was) ≡ length was
-  unfolding laid
-  length-laid xs was = simp (length-append, length-take, length-drop) (omega arith)
-
-  drop-laid : (k : ℕ) (xs was : List A) → length xs ≤ k → length xs ≤ length was → drop k (laid xs was) ≡ drop k was
-  drop-laid k xs was h l =
-      let e : k ≡ length xs + (k - length xs) = omega arith in
-      rw (laid-fits xs was l, e, drop-append-add, drop-drop)
-
-  -- over the same places the last wins
-  laid-laid : (xs ys was : List A) → length xs ≤ length ys → length ys ≤ length was → laid ys (laid xs was) ≡ laid ys was
-  laid-laid xs ys was h k =
-      let l : length ys ≤ length (laid xs was) = rw length-laid k in
-      rw (laid-fits ys (laid xs was) l, laid-fits ys was k, drop-laid (length ys) xs was h (omega arith))
 
 -- ---- channels in scratch
 
@@ -41,11 +20,11 @@ module _ (half : ℕ) where
   unfolding withParts
   with-length [] scr = refl
   with-length (xs ∷ chans) scr =
-      rw (length-append, length-laid, with-length chans (drop half scr)) (sym (length-append (take half scr) (drop half scr)) ∙ ap length (take-append-drop half scr))
+      rw (length-append, laid-length, with-length chans (drop half scr)) (sym (length-append (take half scr) (drop half scr)) ∙ ap length (take-append-drop half scr))
 
   module _ (xs : List ℤ) (chans : List (List ℤ)) (scr : List ℤ) (h : half ≤ length scr) where
     length-first : length (laid xs (take half scr)) ≡ half
-    length-first = length-laid xs (take half scr) ∙ length-take-le half scr h
+    length-first = laid-length xs (take half scr) ∙ length-take-le half scr h
 
     with-take : take half (withParts half (xs ∷ chans) scr) ≡ laid xs (take half scr)
     unfolding withParts
@@ -78,7 +57,7 @@ module _ (half : ℕ) where
       take-with : (chans : List (List ℤ)) → take n (withParts half (xs ∷ chans) scr) ≡ xs
       take-with chans =
           sym (take-take n half (withParts half (xs ∷ chans) scr) short)
-          ∙ rw (with-take xs chans scr h, laid-fits xs (take half scr) in-half) (take-at xs (drop (length xs) (take half scr)) n e)
+          ∙ rw (with-take xs chans scr h, laid-all xs (take half scr) in-half) (take-at xs (drop (length xs) (take half scr)) n e)
 
     pub parts-with : {chans : List (List ℤ)} (scr : List ℤ) → Every (λ c. length c ≡ n) chans → length chans * half ≤ length scr
         → parts half n (length chans) (withParts half chans scr) ≡ chans
@@ -110,7 +89,7 @@ module _ (half : ℕ) where
     unfolding withParts
     with-first ys scr e h =
         let l = in-half ys scr e h in
-        rw (laid-fits ys (take half scr) l, append-assoc, ← drop-append-le (length ys) (take half scr) (drop half scr) l, take-append-drop, e)
+        rw (laid-all ys (take half scr) l, append-assoc, ← drop-append-le (length ys) (take half scr) (drop half scr) l, take-append-drop, e)
 
     -- after the first channel, whether the second was there or not
     pub with-second : (us vs : List ℤ) {more : List (List ℤ)} (scr : List ℤ) → length us ≡ n → length vs ≡ n

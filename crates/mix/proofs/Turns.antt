@@ -19,7 +19,7 @@ use Rattle.bitcursor.specs.Reads.{Reads}
 use Rattle.bitcursor.proofs.Laws.{within-value, within-got, value-of, short-of}
 use Rattle.mix.specs.Halves.{parts, withParts}
 use Rattle.mix.specs.Contracts.{Appendable, Took}
-use Rattle.mix.proofs.Halves.{laid-fits}
+use Rattle.laws.specs.Buffers.{laid-all}
 
 -- ---- a store to a channel that is done up to i
 
@@ -103,7 +103,7 @@ module _ (half n : ℕ) (s : List ℤ) (i : ℕ) (h : i < n) (short : n ≤ half
 laid-own : (n : ℕ) (t : List ℤ) → n ≤ length t → laid (take n t) t ≡ t
 laid-own n t h =
     let e : length (take n t) ≡ n = length-take-le n t h in
-    rw (laid-fits (take n t) t (omega arith), e, take-append-drop)
+    rw (laid-all (take n t) t (omega arith), e, take-append-drop)
 
 module _ (half n : ℕ) (s : List ℤ) (i : ℕ) (h : n ≤ i) where
   none-left : drop i (take n s) ≡ []

@@ -103,7 +103,7 @@ mixInRange channels mixBits mixRes =
 module _ (s : StreamInfo) (t : PackingSettings) where
   -- settings of a channel that isn't there are not judged and not used
   abbrev pub settingsUsed : List ChannelSettings
-  settingsUsed = take (s .«num_channels») (t .channels)
+  settingsUsed = take (s .«num_channels») (t .first ∷ t .second ∷ [])
 
   -- depth 16, one or two channels, kb 8..31, and the settings
   unfoldable pub inRange : Bool

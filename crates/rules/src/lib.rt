@@ -80,10 +80,12 @@ pub struct ChannelSettings {
     pub coefs: [i16; 30],
 }
 
+// With one channel `second` is not there: it is neither judged nor used.
 pub struct PackingSettings {
     pub mix_bits: u32,
     pub mix_res: u32,
-    pub channels: [ChannelSettings; 2],
+    pub first: ChannelSettings,
+    pub second: ChannelSettings,
 }
 
 // The number of a refusal in document 01.

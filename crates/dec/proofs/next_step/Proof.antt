@@ -2,7 +2,8 @@
 use native.Mathlib.Omega.{arith}
 use borrow.Author.Needs.{needs}
 use Rattle.turn.specs.Told.{Sane}
-use Rattle.dec.proofs.Steps.{product-lt, follows-audio, follows-passed, follows-end, follows-refused}
+use Rattle.laws.specs.Words.{product-lt}
+use Rattle.dec.proofs.Steps.{follows-audio, follows-passed, follows-end, follows-refused}
 use Rattle.dec.proofs.next_step.Statement.{statement}
 use Rattle.dec.proofs.next_step.Tie as tie
 

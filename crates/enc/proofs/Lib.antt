@@ -1,0 +1,3 @@
+pub mod Parts
+pub mod Packs
+pub mod Entry

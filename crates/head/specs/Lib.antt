@@ -1,0 +1,2 @@
+-- What this crate requires.
+pub mod Around
