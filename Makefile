@@ -1,12 +1,11 @@
 # make test: the gate. make readings: document 01's bench readings, run and compared. make compare: ours beside the original Rust.
-# make bench: nanoseconds a sample, ours and the original Rust.
+# make bench: nanoseconds a sample, ours and the original Rust. make real: packets of FFmpeg's encoder, read by ours.
 SHELL := /bin/bash
 
-.PHONY: test readings compare bench kit
+.PHONY: test readings compare bench real kit
 
 test: kit
-	rt fmt --check
-	rt ci
+	@tools/test
 
 readings: kit
 	@rt check readings >target/readings.log 2>&1 || { cat target/readings.log; cat target/log/readings.stdout 2>/dev/null; exit 1; }
@@ -19,6 +18,9 @@ compare: kit
 
 bench: kit
 	@if oracle/build; then target/oracle/oracle bench; else [ $$? -eq 3 ]; fi
+
+real: kit
+	@if oracle/build; then oracle/real; else [ $$? -eq 3 ]; fi
 
 # The Rattle kit is all that this repository needs beyond make and bash; `compare` takes rustc and the original's source too.
 kit:

@@ -3,6 +3,7 @@
 //!   oracle replay WIDTH COOKIE PACKET    one packet, in hexadecimal
 //!   oracle repack COOKIE SETTINGS PASSAGE BYTES SCRATCH    one passage, in hexadecimal, with so much lent
 //!   oracle record N                      N of the original's answers, for the program `replay`
+//!   oracle real FOLDER...                packets of FFmpeg's encoder, which oracle/real makes
 //!   oracle bench                         nanoseconds a sample
 
 mod bench;
@@ -15,6 +16,7 @@ mod ours;
 mod pack;
 mod passages;
 mod random;
+mod real;
 mod record;
 mod stream;
 mod table;
@@ -174,10 +176,11 @@ fn main() {
         Some("compare") => compare(number(1, 20_000), number(2, 1)),
         Some("replay") => replay(&args[1], &unhex(&args[2]), &unhex(&args[3])),
         Some("repack") => repack(&args[1..]),
+        Some("real") => real::real(&args[1..]),
         Some("bench") => bench::bench(),
         Some("record") => record::record(number(1, 2_000)),
         _ => {
-            eprintln!("oracle compare N [SEED] | replay WIDTH COOKIE PACKET | repack COOKIE SETTINGS PASSAGE BYTES SCRATCH | record N | bench");
+            eprintln!("oracle compare N [SEED] | replay WIDTH COOKIE PACKET | repack COOKIE SETTINGS PASSAGE BYTES SCRATCH | record N | real FOLDER... | bench");
             false
         }
     };
