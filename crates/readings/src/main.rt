@@ -4,6 +4,7 @@ mod cookies;
 mod packets;
 mod report;
 mod streams;
+mod writer;
 
 fn main() {
     let counts = report::Counts {
@@ -13,5 +14,6 @@ fn main() {
     let counts = cookies::readings(counts);
     let counts = bits::readings(counts);
     let counts = packets::readings(counts);
+    let counts = writer::readings(counts);
     report::total(counts);
 }
