@@ -12,9 +12,9 @@ readings: kit
 	@cat target/log/readings.stdout
 
 # Status 3 of oracle/build: no rustc, or no source of the original; it says so, and nothing is compared.
-CASES ?= 100000
+N ?= 100000
 compare: kit
-	@if oracle/build; then target/oracle/oracle compare $(CASES); else [ $$? -eq 3 ]; fi
+	@if oracle/build; then target/oracle/oracle compare $(N); else [ $$? -eq 3 ]; fi
 
 bench: kit
 	@if oracle/build; then target/oracle/oracle bench; else [ $$? -eq 3 ]; fi

@@ -119,15 +119,17 @@ pub fn encode_packet_i16(
 ) -> Packed
     ensures { λ r. ⌜ Promise s t (now (passage .entry)) (now (bytes .entry)) (now (bytes .exit)) (now (scratch .entry)) (now (scratch .exit)) r ⌝ }
 {
-    let half = s.frame_length as usize;
-    if !accepted(s, takes_i32(s.bit_depth)) {
+    let places = 2 * (s.frame_length as usize);
+    let taken = accepted(s, takes_i32(s.bit_depth));
+    let ranged = in_range(s, t);
+    if !taken {
         return Packed::Refused(Refusal::Stream);
     }
-    if scratch.len() < 2 * half {
+    if scratch.len() < places {
         return Packed::Refused(Refusal::Room);
     }
-    clear_i32(scratch, 2 * half);
-    if !in_range(s, t) {
+    clear_i32(scratch, places);
+    if !ranged {
         return Packed::Refused(Refusal::Settings);
     }
     if !passage_fits(s, passage.len()) {

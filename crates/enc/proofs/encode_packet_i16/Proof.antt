@@ -9,8 +9,11 @@ use Rattle.enc.proofs.Entry.{unaccepted, unroomy, unranged, unfitting, 
 use Rattle.enc.proofs.encode_packet_i16.Statement.{statement}
 use Rattle.enc.proofs.encode_packet_i16.Tie as tie
 
-cast-half : tie.Need-cast-half
-cast-half c = search needs
+cast-places : tie.Need-cast-places
+cast-places c = search needs
+
+mul-places : tie.Need-mul-places
+mul-places c = search needs
 
 takes-i32-requires : tie.Need-takes-i32-requires
 takes-i32-requires c κs = search needs
@@ -18,49 +21,43 @@ takes-i32-requires c κs = search needs
 accepted-requires : tie.Need-accepted-requires
 accepted-requires c κs = search needs
 
-returns : tie.Need-returns
-returns c = unaccepted _ _ _ _ _ (sym (c .before .accepted .ensures .says i32Output (c .before .before .takes-i32 .ensures)) ∙ not-true _ (c .if1 .taken))
+in-range-requires : tie.Need-in-range-requires
+in-range-requires c κs = search needs
 
-mul-if2 : tie.Need-mul-if2
-mul-if2 c = search needs
+returns : tie.Need-returns
+returns c = unaccepted _ _ _ _ _ (sym (c .before .before .accepted .ensures .says i32Output (c .before .before .before .takes-i32 .ensures)) ∙ not-true _ (c .if1 .taken))
 
 returns-2 : tie.Need-returns-2
-returns-2 c = unroomy _ _ _ _ _ (sym (c .before .before .accepted .ensures .says i32Output (c .before .before .before .takes-i32 .ensures)) ∙ not-false _ (c .before .if1 .left)) (c .if2 .taken)
-
-mul-clear-i32 : tie.Need-mul-clear-i32
-mul-clear-i32 c = search needs
+returns-2 c = unroomy _ _ _ _ _ (sym (c .before .before .before .accepted .ensures .says i32Output (c .before .before .before .before .takes-i32 .ensures)) ∙ not-false _ (c .before .if1 .left)) (c .if2 .taken)
 
 clear-i32-requires : tie.Need-clear-i32-requires
 clear-i32-requires c κs = search needs
-
-in-range-requires : tie.Need-in-range-requires
-in-range-requires c κs = search needs
 
 same-length : tie.Need-same-length
 same-length c = search needs
 
 returns-3 : tie.Need-returns-3
-returns-3 c = unranged _ _ _ _ _ (sym (c .before .before .before .before .before .before .before .accepted .ensures .says i32Output (c .before .before .before .before .before .before .before .before .takes-i32 .ensures)) ∙ not-false _ (c .before .before .before .before .before .before .if1 .left)) (c .before .before .before .before .before .if2 .left) (c .before .before .before .clear-i32 .ensures) (sym (c .before .in-range .ensures) ∙ not-true _ (c .if3 .taken))
+returns-3 c = unranged _ _ _ _ _ (sym (c .before .before .before .before .before .before .before .accepted .ensures .says i32Output (c .before .before .before .before .before .before .before .before .takes-i32 .ensures)) ∙ not-false _ (c .before .before .before .before .before .if1 .left)) (c .before .before .before .before .if2 .left) (c .before .before .clear-i32 .ensures) (sym (c .before .before .before .before .before .before .in-range .ensures) ∙ not-true _ (c .if3 .taken))
 
 passage-fits-requires : tie.Need-passage-fits-requires
-passage-fits-requires c κs = channels-some _ (sym (c .before .before .before .before .before .before .before .accepted .ensures .says i32Output (c .before .before .before .before .before .before .before .before .takes-i32 .ensures)) ∙ not-false _ (c .before .before .before .before .before .before .if1 .left))
+passage-fits-requires c κs = channels-some _ (sym (c .before .before .before .before .before .before .before .accepted .ensures .says i32Output (c .before .before .before .before .before .before .before .before .takes-i32 .ensures)) ∙ not-false _ (c .before .before .before .before .before .if1 .left))
 
 same-length-2 : tie.Need-same-length-2
 same-length-2 c = search needs
 
 returns-4 : tie.Need-returns-4
-returns-4 c = unfitting _ _ _ _ _ (sym (c .before .before .before .before .before .before .before .before .before .accepted .ensures .says i32Output (c .before .before .before .before .before .before .before .before .before .before .takes-i32 .ensures)) ∙ not-false _ (c .before .before .before .before .before .before .before .before .if1 .left)) (c .before .before .before .before .before .before .before .if2 .left) (c .before .before .before .before .before .clear-i32 .ensures) (sym (c .before .before .before .in-range .ensures) ∙ not-false _ (c .before .before .if3 .left)) (sym (c .before .passage-fits .ensures .says _ _ refl) ∙ not-true _ (c .if4 .taken))
+returns-4 c = unfitting _ _ _ _ _ (sym (c .before .before .before .before .before .before .before .before .before .accepted .ensures .says i32Output (c .before .before .before .before .before .before .before .before .before .before .takes-i32 .ensures)) ∙ not-false _ (c .before .before .before .before .before .before .before .if1 .left)) (c .before .before .before .before .before .before .if2 .left) (c .before .before .before .before .clear-i32 .ensures) (sym (c .before .before .before .before .before .before .before .before .in-range .ensures) ∙ not-false _ (c .before .before .if3 .left)) (sym (c .before .passage-fits .ensures .says _ _ refl) ∙ not-true _ (c .if4 .taken))
 
 pack-requires : tie.Need-pack-requires
 pack-requires c κs =
     record {
       writable = record {
         mb-byte = omega (arith, c .before .before .before .before .before .before .before .before .before .before .before .before .before .struct-known .given);
-        reader = sym (c .before .before .before .before .before .before .before .before .before .before .before .accepted .ensures .says i32Output (c .before .before .before .before .before .before .before .before .before .before .before .before .takes-i32 .ensures)) ∙ not-false _ (c .before .before .before .before .before .before .before .before .before .before .if1 .left);
-        ranges = sym (c .before .before .before .before .before .in-range .ensures) ∙ not-false _ (c .before .before .before .before .if3 .left);
+        reader = sym (c .before .before .before .before .before .before .before .before .before .before .before .accepted .ensures .says i32Output (c .before .before .before .before .before .before .before .before .before .before .before .before .takes-i32 .ensures)) ∙ not-false _ (c .before .before .before .before .before .before .before .before .before .if1 .left);
+        ranges = sym (c .before .before .before .before .before .before .before .before .before .before .in-range .ensures) ∙ not-false _ (c .before .before .before .before .if3 .left);
         fits = sym (c .before .before .before .passage-fits .ensures .says (c .before .before .before .before .before .before .before .before .before .before .before .before .before .before .before .args .t) (c .before .before .before .before .before .before .before .before .before .before .before .before .before .before .before .args .passage .now) refl) ∙ not-false _ (c .before .before .if4 .left);
       };
-      places = rw (c .before .before .before .before .before .before .before .clear-i32 .ensures, laid-length) (c .before .before .before .before .before .before .before .before .before .if2 .left);
+      places = rw (c .before .before .before .before .before .before .clear-i32 .ensures, laid-length) (c .before .before .before .before .before .before .before .before .if2 .left);
     }
 
 same-length-3 : tie.Need-same-length-3
@@ -70,21 +67,20 @@ same-length-4 : tie.Need-same-length-4
 same-length-4 c = search needs
 
 returns-5 : tie.Need-returns-5
-returns-5 c = packs _ _ _ _ _ (sym (c .before .before .before .before .before .before .before .before .before .before .before .before .before .before .before .accepted .ensures .says i32Output (c .before .before .before .before .before .before .before .before .before .before .before .before .before .before .before .before .takes-i32 .ensures)) ∙ not-false _ (c .before .before .before .before .before .before .before .before .before .before .before .before .before .before .if1 .left)) (c .before .before .before .before .before .before .before .before .before .before .before .before .before .if2 .left) (c .before .before .before .before .before .before .before .before .before .before .before .clear-i32 .ensures) (sym (c .before .before .before .before .before .before .before .before .before .in-range .ensures) ∙ not-false _ (c .before .before .before .before .before .before .before .before .if3 .left)) (sym (c .before .before .before .before .before .before .before .passage-fits .ensures .says _ _ refl) ∙ not-false _ (c .before .before .before .before .before .before .if4 .left)) (c .before .before .before .pack .ensures)
+returns-5 c = packs _ _ _ _ _ (sym (c .before .before .before .before .before .before .before .before .before .before .before .before .before .before .before .accepted .ensures .says i32Output (c .before .before .before .before .before .before .before .before .before .before .before .before .before .before .before .before .takes-i32 .ensures)) ∙ not-false _ (c .before .before .before .before .before .before .before .before .before .before .before .before .before .if1 .left)) (c .before .before .before .before .before .before .before .before .before .before .before .before .if2 .left) (c .before .before .before .before .before .before .before .before .before .before .clear-i32 .ensures) (sym (c .before .before .before .before .before .before .before .before .before .before .before .before .before .before .in-range .ensures) ∙ not-false _ (c .before .before .before .before .before .before .before .before .if3 .left)) (sym (c .before .before .before .before .before .before .before .passage-fits .ensures .says _ _ refl) ∙ not-false _ (c .before .before .before .before .before .before .if4 .left)) (c .before .before .before .pack .ensures)
 
 pub encode-packet-i16-spec : {M : Type 1} → statement M
 encode-packet-i16-spec =
     tie.close
     (tie.spec
-    cast-half
+    cast-places
+    mul-places
     takes-i32-requires
     accepted-requires
-    returns
-    mul-if2
-    returns-2
-    mul-clear-i32
-    clear-i32-requires
     in-range-requires
+    returns
+    returns-2
+    clear-i32-requires
     same-length
     returns-3
     passage-fits-requires
