@@ -6,8 +6,8 @@ use crate::writer::Settings;
 /// Whether FFmpeg is here.
 pub const HERE: bool = cfg!(ffmpeg);
 
-/// Packets that FFmpeg reads as document 01 does. It refuses 0 samples and an order that is not below the frame; at order 0
-/// it takes residuals for samples; and its run k at h = 0, which needs mb 0 or factor 0, is 7.
+/// Packets that FFmpeg was seen to read as document 01 does. It refuses 0 samples and an order that is not below the frame, and
+/// reads many packets of order 0, factor 0 or mb 0 differently; docs/DIFFERENCES.md tells what we suppose of the causes.
 pub fn agrees(s: &Stream, settings: &Settings, n: usize) -> bool {
     let channel = |order: u16, factor: u64| order > 0 && (order as u32) < s.frame_length && factor > 0;
     n > 0 && s.mb > 0 && settings.channels.iter().all(|c| channel(c.order, c.factor(s)))
