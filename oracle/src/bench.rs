@@ -3,6 +3,7 @@
 use crate::ours::{encode, Width};
 use crate::passages::speech;
 use crate::random::Random;
+use crate::stack::stack;
 use crate::stream::Stream;
 use crate::writer::{packet, Channel, Settings};
 use std::time::Instant;
@@ -71,5 +72,6 @@ pub fn bench() -> bool {
             }
         }
     }
+    stack();
     true
 }

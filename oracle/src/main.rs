@@ -4,7 +4,7 @@
 //!   oracle repack COOKIE SETTINGS PASSAGE BYTES SCRATCH    one passage, in hexadecimal, with so much lent
 //!   oracle record N                      N of the original's answers, for the program `replay`
 //!   oracle real FOLDER...                packets of FFmpeg's encoder, which oracle/real makes
-//!   oracle bench                         nanoseconds a sample
+//!   oracle bench                         nanoseconds a sample, and the stack that a call takes
 
 mod bench;
 mod bits;
@@ -18,6 +18,7 @@ mod passages;
 mod random;
 mod real;
 mod record;
+mod stack;
 mod stream;
 mod table;
 mod writer;
