@@ -1,5 +1,6 @@
-//! Nanoseconds a sample for whole packets: reading, ours and the original; packing, ours.
+//! Nanoseconds a sample for whole packets: reading, ours, the original and FFmpeg; packing, ours.
 
+use crate::ffmpeg::Reader;
 use crate::ours::{encode, Width};
 use crate::passages::speech;
 use crate::random::Random;
@@ -41,28 +42,32 @@ fn line(sound: &str, passage: &[i16], channels: usize, order: u16) {
     let s = Stream { frame_length: FRAME as u32, bit_depth: 16, pb: 40, mb: 10, kb: 14, num_channels: channels as u8 };
     let (cookie, settings) = (s.cookie(), settings(channels, order));
     let (packed, flat) = (packet(&s, &settings, passage), settings.flat());
-    let (mut out, mut out2) = (vec![0i16; s.places()], vec![0i16; s.places()]);
+    let [mut out, mut out2, mut out3] = [(); 3].map(|_| vec![0i16; s.places()]);
     let [mut scratch, mut scratch2, mut scratch3] = [(); 3].map(|_| vec![0; 2 * FRAME]);
     let [mut answer, mut answer2, mut answer3] = [[0; 4]; 3];
     let mut wide = vec![0; settings.limit(FRAME).div_ceil(8)];
     let mut fit = vec![0; packed.len()];
     let mut decoder = alac::Decoder::new(alac::StreamInfo::from_cookie(&cookie).expect("a cookie"));
-    let [ours, original, packs, fits] = best(s.places(), [
+    let mut ffmpeg = Reader::open(&s);
+    let [ours, original, third, packs, fits] = best(s.places(), [
         &mut || assert!(i16::decode(&cookie, &packed, &mut out, &mut scratch, &mut answer) == 0),
         &mut || assert!(decoder.decode_packet(&packed, &mut out2).is_ok()),
+        &mut || ffmpeg.iter_mut().for_each(|f| assert!(f.read(&packed, &mut out3) == Some(FRAME))),
         &mut || assert!(encode(&cookie, &flat, passage, &mut wide, &mut scratch2, &mut answer2) == 0),
         &mut || assert!(encode(&cookie, &flat, passage, &mut fit, &mut scratch3, &mut answer3) == 0),
     ]);
-    assert!(out == passage && out2 == passage && fit == packed && wide[..packed.len()] == packed);
+    assert!(out == passage && out2 == passage && (ffmpeg.is_none() || out3 == passage) && fit == packed && wide[..packed.len()] == packed);
     let kind = if channels == 1 { "mono" } else { "stereo" };
     let ratio = ours / original;
-    println!("{sound:<7} {kind:<7} {order:>5} {ours:>9.2} {original:>9.2} {ratio:>7.2} {packs:>9.2} {fits:>9.2}");
+    let third = ffmpeg.map_or("-".to_string(), |_| format!("{third:.2}"));
+    println!("{sound:<7} {kind:<7} {order:>5} {ours:>9.2} {original:>9.2} {ratio:>7.2} {third:>9} {packs:>9.2} {fits:>9.2}");
 }
 
 pub fn bench() -> bool {
     println!("nanoseconds a sample, packets of {FRAME} samples a channel, best of {ROUNDS} rounds; ratio: ours over the original");
     println!("packs: ours, with bytes that cover the limit; fits: with bytes that the packet just fills");
-    println!("sound   kind    order      ours  original   ratio     packs      fits");
+    println!("FFmpeg: with its packet made and its planes interleaved; a dash where libavcodec is not here");
+    println!("sound   kind    order      ours  original   ratio    FFmpeg     packs      fits");
     for sound in ["speech", "noise"] {
         for channels in [1, 2] {
             let mut r = Random::new(4);

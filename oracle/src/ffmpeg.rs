@@ -14,18 +14,61 @@ pub fn agrees(s: &Stream, settings: &Settings, n: usize) -> bool {
 }
 
 /// None where FFmpeg refuses the packet.
-#[cfg(ffmpeg)]
 pub fn read(s: &Stream, packet: &[u8]) -> Option<Vec<i16>> {
-    extern "C" {
-        fn ffmpeg_read(cookie: *const u8, bytes: *const u8, length: usize, out: *mut i16, places: usize) -> i32;
-    }
-    let (cookie, mut out) = (s.cookie(), vec![0; s.places()]);
-    let n = unsafe { ffmpeg_read(cookie.as_ptr(), packet.as_ptr(), packet.len(), out.as_mut_ptr(), out.len()) };
-    out.truncate(usize::try_from(n).ok()? * s.num_channels as usize);
+    let mut out = vec![0; s.places()];
+    let n = Reader::open(s)?.read(packet, &mut out)?;
+    out.truncate(n * s.num_channels as usize);
     Some(out)
 }
 
+pub use here::Reader;
+
+#[cfg(ffmpeg)]
+mod here {
+    use crate::stream::Stream;
+    use std::ffi::c_void;
+
+    extern "C" {
+        fn ffmpeg_open(cookie: *const u8) -> *mut c_void;
+        fn ffmpeg_read(reader: *mut c_void, bytes: *const u8, length: usize, out: *mut i16, places: usize) -> i32;
+        fn ffmpeg_close(reader: *mut c_void);
+    }
+
+    pub struct Reader(*mut c_void);
+
+    impl Reader {
+        pub fn open(s: &Stream) -> Option<Reader> {
+            let reader = unsafe { ffmpeg_open(s.cookie().as_ptr()) };
+            (!reader.is_null()).then_some(Reader(reader))
+        }
+
+        /// How many samples of each channel.
+        pub fn read(&mut self, packet: &[u8], out: &mut [i16]) -> Option<usize> {
+            let n = unsafe { ffmpeg_read(self.0, packet.as_ptr(), packet.len(), out.as_mut_ptr(), out.len()) };
+            usize::try_from(n).ok()
+        }
+    }
+
+    impl Drop for Reader {
+        fn drop(&mut self) {
+            unsafe { ffmpeg_close(self.0) }
+        }
+    }
+}
+
 #[cfg(not(ffmpeg))]
-pub fn read(_: &Stream, _: &[u8]) -> Option<Vec<i16>> {
-    unreachable!("only where FFmpeg is here")
+mod here {
+    use crate::stream::Stream;
+
+    pub struct Reader;
+
+    impl Reader {
+        pub fn open(_: &Stream) -> Option<Reader> {
+            None
+        }
+
+        pub fn read(&mut self, _: &[u8], _: &mut [i16]) -> Option<usize> {
+            None
+        }
+    }
 }
