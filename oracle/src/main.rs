@@ -11,6 +11,7 @@ mod bits;
 mod cases;
 mod compare;
 mod ffmpeg;
+mod library;
 mod original;
 mod ours;
 mod pack;

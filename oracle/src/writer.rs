@@ -65,6 +65,16 @@ impl Settings {
     }
 }
 
+/// The past sample from which adaptation starts.
+#[derive(Clone, Copy)]
+pub enum Start {
+    /// document 01's
+    Oldest,
+    /// one of document 01's slips, for the sheet alone: past samples are walked, and steps counted, from the newest
+    #[allow(dead_code)]
+    Newest,
+}
+
 /// The packet, or the refusal's number, with so many bytes and places of scratch lent.
 pub fn write(s: &Stream, flat: &[i16], passage: &[i16], bytes: usize, scratch: usize) -> Result<Vec<u8>, u32> {
     if !s.accepted(true) {
@@ -86,6 +96,11 @@ pub fn write(s: &Stream, flat: &[i16], passage: &[i16], bytes: usize, scratch: u
 
 /// The packet where nothing but its length can be refused.
 pub fn packet(s: &Stream, settings: &Settings, passage: &[i16]) -> Vec<u8> {
+    packet_from(s, settings, passage, Start::Oldest)
+}
+
+/// The packet of a writer whose adaptation starts there.
+pub fn packet_from(s: &Stream, settings: &Settings, passage: &[i16], start: Start) -> Vec<u8> {
     let n = passage.len() / s.num_channels as usize;
     let partial = n < s.frame_length as usize;
     let mut w = BitWriter::new();
@@ -109,7 +124,7 @@ pub fn packet(s: &Stream, settings: &Settings, passage: &[i16]) -> Vec<u8> {
     }
     let bits = 16 + s.num_channels as u32 - 1;
     for (c, samples) in settings.channels.iter().zip(mixed(settings, passage)) {
-        rice(&mut w, s, c.factor(s), bits, &residuals(c, bits, &samples));
+        rice(&mut w, s, c.factor(s), bits, &residuals(c, bits, &samples, start));
     }
     w.put(7, 3); // END
     w.align();
@@ -135,7 +150,7 @@ fn sign_extended(x: i32, bits: u32) -> i32 {
 }
 
 /// What the reader's prediction turns back into the samples.
-fn residuals(c: &Channel, bits: u32, samples: &[i32]) -> Vec<i32> {
+fn residuals(c: &Channel, bits: u32, samples: &[i32], start: Start) -> Vec<i32> {
     let order = c.order as usize;
     // oldest first, as prediction walks them
     let mut coefs: Vec<i16> = c.coefs[..order].iter().rev().copied().collect();
@@ -151,7 +166,7 @@ fn residuals(c: &Channel, bits: u32, samples: &[i32]) -> Vec<i32> {
         let e = sign_extended(samples[i].wrapping_sub(predicted), bits);
         out.push(e);
         if i > order {
-            adapt(&mut coefs, c.quant, &samples[i - order - 1..i], e);
+            adapt(&mut coefs, c.quant, &samples[i - order - 1..i], e, start);
         }
     }
     out
@@ -167,17 +182,21 @@ fn predict(coefs: &[i16], quant: u16, past: &[i32]) -> i32 {
     (sum.wrapping_add(1 << (quant - 1)) >> quant).wrapping_add(mean)
 }
 
-fn adapt(coefs: &mut [i16], quant: u16, past: &[i32], e: i32) {
+fn adapt(coefs: &mut [i16], quant: u16, past: &[i32], e: i32, start: Start) {
     let mut error = e.signum().wrapping_mul(e);
-    for j in 0..coefs.len() {
+    for step in 0..coefs.len() {
         // a residual of 0 changes nothing
         if error <= 0 {
             break;
         }
+        let j = match start {
+            Start::Oldest => step,
+            Start::Newest => coefs.len() - 1 - step,
+        };
         let d = past[j + 1].wrapping_sub(past[0]);
         let t = d.signum() * e.signum();
         coefs[j] = coefs[j].wrapping_add(t as i16);
-        let loss = (d.wrapping_mul(t) >> quant).wrapping_mul(j as i32 + 1);
+        let loss = (d.wrapping_mul(t) >> quant).wrapping_mul(step as i32 + 1);
         error = error.wrapping_sub(e.signum().wrapping_mul(loss));
     }
 }
