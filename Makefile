@@ -1,8 +1,9 @@
 # make test: the gate. make readings: document 01's bench readings, run and compared. make compare: ours beside the original Rust.
 # make bench: nanoseconds a sample, ours and the original Rust. make real: packets of FFmpeg's encoder, read by ours.
+# make sheet: a year of wet days, measured and drawn as docs/sheet.svg.
 SHELL := /bin/bash
 
-.PHONY: test readings compare bench real kit
+.PHONY: test readings compare bench real sheet kit
 
 test: kit
 	@tools/test
@@ -21,6 +22,10 @@ bench: kit
 
 real: kit
 	@if oracle/build; then oracle/real; else [ $$? -eq 3 ]; fi
+
+# It takes rustc, and not the original's source.
+sheet: kit
+	@tools/sheet
 
 # The Rattle kit is all that this repository needs beyond make and bash; `compare` takes rustc and the original's source too.
 kit:
