@@ -1,9 +1,9 @@
-# make test: the gate. make readings: document 01's bench readings, run and compared. make compare: ours beside the original Rust.
-# make bench: nanoseconds a sample, ours and the original Rust. make real: packets of FFmpeg's encoder, read by ours.
-# make sheet: a year of wet days, measured and drawn as docs/sheet.svg.
+# make test: the gate. make readings: document 01's bench readings, run and compared.
+# make sheet: a year of wet days, measured and drawn as docs/sheet.svg. make bindings: the Rust crate and the C header, tested.
+# make compare: ours beside the original Rust. make bench: nanoseconds a sample. make real: packets of FFmpeg's encoder, read by ours.
 SHELL := /bin/bash
 
-.PHONY: test readings compare bench real sheet kit
+.PHONY: test readings sheet bindings compare bench real kit
 
 test: kit
 	@tools/test
@@ -11,6 +11,13 @@ test: kit
 readings: kit
 	@rt check readings >target/readings.log 2>&1 || { cat target/readings.log; cat target/log/readings.stdout 2>/dev/null; exit 1; }
 	@cat target/log/readings.stdout
+
+# It takes rustc, and not the original's source.
+sheet: kit
+	@tools/sheet
+
+bindings: kit
+	@tools/test-bindings
 
 # Status 3 of oracle/build: no rustc, or no source of the original; it says so, and nothing is compared.
 N ?= 100000
@@ -23,10 +30,6 @@ bench: kit
 real: kit
 	@if oracle/build; then oracle/real; else [ $$? -eq 3 ]; fi
 
-# It takes rustc, and not the original's source.
-sheet: kit
-	@tools/sheet
-
-# The Rattle kit is all that this repository needs beyond make and bash; `compare` takes rustc and the original's source too.
+# The Rattle kit is all that the gate needs beyond make and bash. `sheet` takes rustc too, `bindings` cargo and cc, the last three rustc and the original's source.
 kit:
 	@command -v rt >/dev/null 2>&1 || { echo "The command 'rt' is not here: install the Rattle kit and put its bin folder on PATH." >&2; exit 1; }
