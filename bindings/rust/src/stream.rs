@@ -94,3 +94,20 @@ impl StreamInfo {
         vec![0; 2 * self.supported_frame()].into_boxed_slice()
     }
 }
+
+#[cfg(test)]
+mod tests {
+    use super::StreamInfo;
+
+    #[test]
+    fn a_stream_comes_back_from_its_cookie() {
+        for atom in [b"frma", b"alac", b"\x05\x06\x07\x08"] {
+            let mut cookie: Vec<u8> = (1..=36).collect();
+            cookie[4..8].copy_from_slice(b"alac");
+            cookie[16..20].copy_from_slice(atom);
+            let info = StreamInfo::from_cookie(&cookie).expect("24 bytes after the atom");
+            assert_eq!(info.compatible_version, atom[0]);
+            assert_eq!(StreamInfo::from_cookie(&info.cookie()), Ok(info));
+        }
+    }
+}

@@ -2,6 +2,7 @@
 
 mod common;
 
+use common::bits::{Bits, CPE, PARTIAL};
 use common::{Stream, MONO, PAIR};
 use mosilapu::{ChannelSettings, Decoder, Encoder, PackingSettings};
 
@@ -148,6 +149,26 @@ fn packets_of_one_stream_follow_each_other() {
         assert!(decoder.decode_packet(&packet[..packet.len() - 1], &mut out).is_err());
         assert_eq!(decoder.decode_packet(&packet, &mut out), Ok(&passage[..]));
     }
+}
+
+/// Every setting has its own place in the packet; coefficients past the order have none.
+#[test]
+fn a_packet_carries_the_settings_set_last() {
+    let channel = |pb_factor, quant, order| {
+        let coefs = [0; 30].map(|_: i16| -i16::from(quant));
+        ChannelSettings { pb_factor, quant, order, coefs }
+    };
+    let settings = PackingSettings { mix_bits: 3, mix_res: 5, first: channel(4, 9, 2), second: channel(1, 7, 1) };
+    let mut encoder = Encoder::new(PAIR.info(), PackingSettings::default());
+    let usual = pack(&mut encoder, &[]);
+    encoder.set_settings(settings.clone());
+    assert_eq!(encoder.settings(), &settings);
+    let head = Bits::default().element(CPE, PARTIAL).put(0, 32).mix(3, 5);
+    let first = head.put(0, 4).put(9, 4).put(4, 3).put(2, 5).samples(&[-9, -9], 16);
+    let second = first.put(0, 4).put(7, 4).put(1, 3).put(1, 5).samples(&[-7], 16);
+    assert_eq!(pack(&mut encoder, &[]), second.end());
+    encoder.set_settings(PackingSettings::default());
+    assert_eq!(pack(&mut encoder, &[]), usual);
 }
 
 #[test]
