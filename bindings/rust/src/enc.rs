@@ -14,7 +14,7 @@ pub struct ChannelSettings {
     pub coefs: [i16; 30],
 }
 
-/// Sensible for sound of any kind; which settings pack best is for the caller to find out.
+/// The usual values to start from; which settings pack best is for the caller to find out.
 impl Default for ChannelSettings {
     fn default() -> ChannelSettings {
         let mut coefs = [0; 30];
@@ -83,7 +83,8 @@ impl Encoder {
 
     /// The most bytes that a packet of `samples` samples, all channels together, can have.
     ///
-    /// It is proved that none has more. More than a frame counts as a frame, as it is never packed.
+    /// It is the sum of `byte_limit` in crates/ranges, of which it is proved that no packet has more. More
+    /// than a frame counts as a frame, as it is never packed.
     pub fn max_packet_bytes(&self, samples: usize) -> usize {
         let channels = usize::from(self.config.channels().max(1));
         let n = samples.div_ceil(channels).min(self.config.supported_frame());
@@ -97,7 +98,7 @@ impl Encoder {
     /// exactly the passage.
     ///
     /// With `max_packet_bytes` of bytes the passage is packed in one go, and 21 is never the error.
-    /// With fewer it is measured first, which takes as long again.
+    /// With fewer it is measured first, so the work is done twice.
     ///
     /// Error 2 or 19 if the stream or the settings are outside what can be packed, 20 if the passage
     /// is longer than a frame or not a multiple of the channels, and 21 if the packet is longer than
