@@ -7,9 +7,9 @@ use native.Mathlib.Omega.{arith}
 use lib.ListN.{getD}
 use lib.IntN.{ℤ}
 use Rattle.rules.specs.Answers.{pick}
-use Rattle.rules.specs.Words.{isZero}
+use Rattle.rules.specs.Words.{sub32, isZero}
 use Rattle.rules.specs.Buffers.{lane, upTo, lanes}
-use Rattle.rules.specs.Mix.{midOf, sideOf, onPair, mixed}
+use Rattle.rules.specs.Mix.{midOf, onPair, mixed}
 
 up-to-at : {A : Type 0} (f : ℕ → A) (z : A) (n j : ℕ) → j < n → getD (map f (upTo n)) j z ≡ f j
 unfolding upTo
@@ -34,6 +34,6 @@ module _ (mixBits : ℕ) (mixRes : ℤ) where
     unfolding mixed
     mixed-zero e = rw e
 
-    pub mixed-pair : isZero mixRes ≡ false → mixed mixBits mixRes chans ≡ onPair (midOf mixBits mixRes) sideOf chans
+    pub mixed-pair : isZero mixRes ≡ false → mixed mixBits mixRes chans ≡ onPair (midOf mixBits mixRes) sub32 chans
     unfolding mixed
     mixed-pair e = rw e

@@ -9,7 +9,8 @@ use lib.ListN.{length, getD, take, drop, set, length-set, drop-of-length-le}
 use lib.Seq.{take-all, drop-cons, drop-drop, append-snoc, take-suc-set}
 use lib.IntN.{ℤ, pos}
 use Rattle.rules.specs.Buffers.{every, lane, lanes, upTo, pairs}
-use Rattle.rules.specs.Mix.{midOf, sideOf, onPair}
+use Rattle.rules.specs.Words.{sub32}
+use Rattle.rules.specs.Mix.{midOf, onPair}
 use Rattle.blend.specs.Mixable.{mixedSample}
 
 -- ---- one place a turn
@@ -74,7 +75,7 @@ module _ (mixBits : ℕ) (mixRes : ℤ) (which : ℕ) (xs : List ℤ) where
   mixedFrom i = pairs (mixedSample mixBits mixRes which) (laneFrom 2 0 xs i) (laneFrom 2 1 xs i)
 
   abbrev pub mixedLane : List ℤ
-  mixedLane = getD (onPair (midOf mixBits mixRes) sideOf (lanes 2 xs)) which []
+  mixedLane = getD (onPair (midOf mixBits mixRes) sub32 (lanes 2 xs)) which []
 
   module _ (n i : ℕ) (rows : length xs ≡ n * 2) where
     pub mixed-next : i < n → mixedFrom i ≡ mixedSample mixBits mixRes which (getD xs (i * 2) (pos 0)) (getD xs (i * 2 + 1) (pos 0)) ∷ mixedFrom (i + 1)

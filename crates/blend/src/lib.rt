@@ -4,7 +4,8 @@ ghost use mathlib.Core.List.{[]};
 ghost use Prim.Native.Nat.{_*_, _<_};
 ghost use lib.ListN.{length, getD};
 ghost use Rattle.rules.specs.Buffers.{lane, lanes};
-ghost use Rattle.rules.specs.Mix.{midOf, sideOf, onPair, mixed};
+ghost use Rattle.rules.specs.Words.{sub32};
+ghost use Rattle.rules.specs.Mix.{midOf, onPair, mixed};
 ghost use Rattle.blend.specs.Mixable.{Mixable, mixedSample};
 use words::shift_down;
 use words::wrapping_add_i32;
@@ -47,7 +48,7 @@ fn copy_lane(passage: &[i16], channels: usize, which: usize, out: &mut [i32])
 // Channel `which` of the mixed pair.
 fn mix_pairs(passage: &[i16], which: usize, mix_bits: u32, mix_res: i32, out: &mut [i32])
     requires { ⌜ Mixable 2 which «mix_bits» (length (now out)) (now passage) ⌝ }
-    ensures { λ _. ⌜ now (out .exit) ≡ getD (onPair (midOf «mix_bits» «mix_res») sideOf (lanes 2 (now (passage .entry)))) which [] ⌝ }
+    ensures { λ _. ⌜ now (out .exit) ≡ getD (onPair (midOf «mix_bits» «mix_res») sub32 (lanes 2 (now (passage .entry)))) which [] ⌝ }
 {
     for i in 0..out.len() {
         let l = passage[i * 2] as i32;

@@ -5,9 +5,10 @@ use mathlib.Core.Bool.{Bool, true, false}
 use mathlib.Core.List.{List, [], _∷_, _++_, append-assoc}
 use lib.ListN.{length, drop}
 use lib.IntN.{ℤ}
+use Rattle.rules.specs.Answers.{pick}
 use Rattle.rules.specs.Words.{folded}
 use Rattle.rules.specs.Rice.{symbolK, symbolM, historyAfter, runFollows}
-use Rattle.rules.specs.Writer.{symbolBits, owedAfter, runBits, historyThen, plusAfter, riceCode}
+use Rattle.rules.specs.Writer.{symbolBits, zeros, runBits, riceCode}
 
 -- es are the samples after e
 module _ (f : ℕ) (e : ℤ) (es : List ℤ) (h : ℕ) where
@@ -16,18 +17,18 @@ module _ (f : ℕ) (e : ℤ) (es : List ℤ) (h : ℕ) where
   turnRuns = runFollows (historyAfter f h (folded e)) (length es)
 
   unfoldable pub turnOwed : ℕ
-  turnOwed = owedAfter turnRuns es
+  turnOwed = pick turnRuns (zeros es) 0
 
   unfoldable pub turnHistory : ℕ
-  turnHistory = historyThen turnRuns (historyAfter f h (folded e))
+  turnHistory = pick turnRuns 0 (historyAfter f h (folded e))
 
   unfoldable pub turnPlus : ℕ
-  turnPlus = plusAfter turnRuns
+  turnPlus = pick turnRuns 1 0
 
 unfoldable pub turnBits : ℕ → ℕ → ℕ → ℤ → List ℤ → ℕ → ℕ → List ℕ
 turnBits f kb b e es h plus =
     symbolBits (symbolK kb h) (symbolM (symbolK kb h)) b (folded e - plus)
-    ++ runBits (turnRuns f e es h) kb (historyAfter f h (folded e)) (owedAfter (turnRuns f e es h) es)
+    ++ pick (turnRuns f e es h) (runBits kb (historyAfter f h (folded e)) (zeros es)) []
 
 module _ (f kb b : ℕ) where
   -- zeros that a run has told of take no bits
@@ -50,9 +51,9 @@ module _ (f kb b : ℕ) where
       h′ = historyAfter f h (folded e)
 
       go : (run : Bool)
-          → w ++ (runBits run kb h′ (owedAfter run es) ++ riceCode f kb b es (owedAfter run es) (historyThen run h′) (plusAfter run) .bits)
-          ≡ w ++ runBits run kb h′ (owedAfter run es) ++ riceCode f kb b (drop (owedAfter run es) es) 0 (historyThen run h′) (plusAfter run) .bits
+          → w ++ (pick run (runBits kb h′ (zeros es)) [] ++ riceCode f kb b es (pick run (zeros es) 0) (pick run 0 h′) (pick run 1 0) .bits)
+          ≡ w ++ pick run (runBits kb h′ (zeros es)) [] ++ riceCode f kb b (drop (pick run (zeros es) 0) es) 0 (pick run 0 h′) (pick run 1 0) .bits
       go true =
-          ap (λ (t : List ℕ). w ++ (runBits true kb h′ (owedAfter true es) ++ t)) (rice-owed es (owedAfter true es))
-          ∙ sym (append-assoc w (runBits true kb h′ (owedAfter true es)) (riceCode f kb b (drop (owedAfter true es) es) 0 0 1 .bits))
+          ap (λ (t : List ℕ). w ++ (runBits kb h′ (zeros es) ++ t)) (rice-owed es (zeros es))
+          ∙ sym (append-assoc w (runBits kb h′ (zeros es)) (riceCode f kb b (drop (zeros es) es) 0 0 1 .bits))
       go false = sym (append-assoc w [] (riceCode f kb b es 0 h′ 0 .bits))

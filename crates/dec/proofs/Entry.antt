@@ -21,19 +21,16 @@ use Rattle.rules.specs.Buffers.{cleared}
 use Rattle.rules.specs.Element.{Sound}
 use Rattle.rules.specs.Packet.{packet}
 use Rattle.rules.specs.Reader.{roomy, decoded, answerOf, written, outputAfter, scratchAfter}
+use Rattle.laws.specs.Tests.{and-parts, AcceptedFields, accepted-fields}
 use Rattle.dec.specs.declared.Judged.the-variants.{Fit, Unfit}
 use Rattle.dec.specs.Promise.{Promise}
 use Rattle.dec.specs.Told.{judgement, Readable, Finished}
 
 -- ---- the tests of 2 and 3
 
-both : (t u : Bool) → t && u ≡ true → (t ≡ true) × (u ≡ true)
-both true u e = (refl, e)
-both false u e = let z : _≡_ {A = ℕ} 0 1 = cc in absurd (omega arith)
-
 pub room-is : (s : StreamInfo) (o c : ℕ) → roomy s o c ≡ true → (outputPlaces s ≤ o) × (scratchPlaces s ≤ c)
 unfolding roomy
-room-is s o c e = let b = both _ _ e in (leb-true _ _ (b .0), leb-true _ _ (b .1))
+room-is s o c e = let b = and-parts _ _ e in (leb-true _ _ (b .0), leb-true _ _ (b .1))
 
 pub depth-i16 : (depth : ℕ) → i16Output .takes depth ≡ true → (16 ≤ depth) × (depth ≤ 32)
 depth-i16 depth e = let d = eqb-true depth 16 e in (omega arith, omega arith)
@@ -72,25 +69,12 @@ module _ (w : Width) (s : StreamInfo) (bytes : List ℕ) (out scr : List ℤ) wh
 
     -- what the parts ask
     pub readable : ((depth : ℕ) → w .takes depth ≡ true → (16 ≤ depth) × (depth ≤ 32)) → Readable s out scr
-    unfolding accepted
     readable depths =
-        let frame : Bool = leb 1 (s .«frame_length») && leb (s .«frame_length») 4096 in
-        let depth : Bool = frame && w .takes (s .«bit_depth») in
-        let channels : Bool = depth && leb 1 (s .«num_channels») && leb (s .«num_channels») 8 in
-        let kb-to = both (channels && leb 1 (s .kb)) (leb (s .kb) 31) (passes .0) in
-        let kb-from = both channels (leb 1 (s .kb)) (kb-to .0) in
-        let channels-to = both (depth && leb 1 (s .«num_channels»)) (leb (s .«num_channels») 8) (kb-from .0) in
-        let depth-is = both frame (w .takes (s .«bit_depth»)) (both depth (leb 1 (s .«num_channels»)) (channels-to .0) .0) in
-        let d = depths (s .«bit_depth») (depth-is .1) in
+        let f = accepted-fields w s (passes .0) in
+        let d = depths (s .«bit_depth») (f .depth) in
         let r = room-is s (length out) (length scr) (passes .1) in
         record {
-          legal = record {
-            frame-le = leb-true _ _ (both (leb 1 (s .«frame_length»)) (leb (s .«frame_length») 4096) (depth-is .0) .1);
-            depth-ge = d .0;
-            depth-le = d .1;
-            kb-ge = leb-true _ _ (kb-from .1);
-            kb-le = leb-true _ _ (kb-to .1);
-          };
+          legal = record { frame-le = f .frame-le; depth-ge = d .0; depth-le = d .1; kb-ge = f .kb-ge; kb-le = f .kb-le };
           places = r .0;
           room = r .1;
         }

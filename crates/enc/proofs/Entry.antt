@@ -17,19 +17,9 @@ use Rattle.rules.specs.Answers.{pick}
 use Rattle.rules.specs.Stream.{i32Output, accepted, scratchPlaces}
 use Rattle.rules.specs.Buffers.{laid, cleared}
 use Rattle.rules.specs.Writer.{inRange, passageFits, packetBytes, packed, bytesAfter, packScratchAfter}
-use Rattle.laws.specs.Rice.{and-parts}
 use Rattle.enc.specs.Promise.{Promise}
 use Rattle.enc.specs.Emitted.{Packing}
 use Rattle.enc.proofs.Packs.{cleared-again}
-
-pub channels-some : (s : StreamInfo) → accepted i32Output s ≡ true → 1 ≤ s .«num_channels»
-unfolding accepted
-channels-some s e =
-    let depth : Bool = leb 1 (s .«frame_length») && leb (s .«frame_length») 4096 && i32Output .takes (s .«bit_depth») in
-    let from : Bool = depth && leb 1 (s .«num_channels») in
-    let to : Bool = from && leb (s .«num_channels») 8 in
-    let kb = and-parts (to && leb 1 (s .kb)) (leb (s .kb) 31) e .0 in
-    leb-true 1 (s .«num_channels») (and-parts depth (leb 1 (s .«num_channels»)) (and-parts from (leb (s .«num_channels») 8) (and-parts to (leb 1 (s .kb)) kb .0) .0) .1)
 
 module _ (s : StreamInfo) (t : PackingSettings) (passage : List ℤ) (bytes : List ℕ) (scr : List ℤ) where
   pub unaccepted : accepted i32Output s ≡ false → Promise s t passage bytes bytes scr scr (Refused Stream)

@@ -13,7 +13,7 @@ use Rattle.rules.specs.Answers.{pick}
 use Rattle.rules.specs.Bits.{digits}
 use Rattle.rules.specs.Words.{folded}
 use Rattle.rules.specs.Rice.{symbolK, symbolM, runK, runM, historyAfter, runFollows}
-use Rattle.rules.specs.Writer.{restBits, symbolBits, owedAfter, runBits, historyThen, plusAfter, riceCode}
+use Rattle.rules.specs.Writer.{restBits, symbolBits, zeros, runBits, riceCode}
 use Rattle.laws.specs.Bits.{length-digits, Bin, bin-append, bin-replicate, bin-digits}
 use Rattle.laws.specs.Rice.{symbolK-le, runK-range, runFollows-lt, history-lt}
 
@@ -37,11 +37,11 @@ symbol-length k m b s = go (ltb (s / m) 9) refl
     go true e = simp (length-append, length-replicate) (omega (arith, ltb-true (s / m) 9 e, rest-length k (s % m)))
     go false e = omega (arith, length-digits b s)
 
-run-length : (run : Bool) (kb h z : ℕ) → (run ≡ true → h < 128) → length (runBits run kb h z) ≤ 25
+run-length : (run : Bool) (kb h z : ℕ) → (run ≡ true → h < 128) → length (pick run (runBits kb h z) []) ≤ 25
 run-length true kb h z l = omega (arith, runK-range h (l refl), symbol-length (runK h) (runM kb (runK h)) 16 z)
 run-length false kb h z l = omega arith
 
-then-lt : (run : Bool) (h : ℕ) → h < 2 ^ 25 → historyThen run h < 2 ^ 25
+then-lt : (run : Bool) (h : ℕ) → h < 2 ^ 25 → pick run 0 h < 2 ^ 25
 then-lt true h l = omega arith
 then-lt false h l = l
 
@@ -56,12 +56,12 @@ rice-length f kb b (e ∷ es) zero h plus lf lh =
     let h′ : ℕ = historyAfter f h (folded e) in
     let run : Bool = runFollows h′ (length es) in
     let w : List ℕ = symbolBits (symbolK kb h) (symbolM (symbolK kb h)) b (folded e - plus) in
-    let u : List ℕ = runBits run kb h′ (owedAfter run es) in
-    let t : List ℕ = riceCode f kb b es (owedAfter run es) (historyThen run h′) (plusAfter run) .bits in
+    let u : List ℕ = pick run (runBits kb h′ (zeros es)) [] in
+    let t : List ℕ = riceCode f kb b es (pick run (zeros es) 0) (pick run 0 h′) (pick run 1 0) .bits in
     let lt : length t ≤ length es * (9 + max 16 b + 25) =
-    rice-length f kb b es (owedAfter run es) (historyThen run h′) (plusAfter run) lf (then-lt run h′ (history-lt f h (folded e) lf lh)) in
+    rice-length f kb b es (pick run (zeros es) 0) (pick run 0 h′) (pick run 1 0) lf (then-lt run h′ (history-lt f h (folded e) lf lh)) in
     let lw : length w ≤ 9 + max (symbolK kb h) b = symbol-length (symbolK kb h) (symbolM (symbolK kb h)) b (folded e - plus) in
-    let lu : length u ≤ 25 = run-length run kb h′ (owedAfter run es) (runFollows-lt h′ (length es)) in
+    let lu : length u ≤ 25 = run-length run kb h′ (zeros es) (runFollows-lt h′ (length es)) in
     omega (arith, suc-mul (length es) (9 + max 16 b + 25), length-append w (u ++ t), length-append u t, symbolK-le kb h lh)
 
 -- ---- bits
@@ -88,7 +88,7 @@ bin-symbol k m b s = go (ltb (s / m) 9)
         (omega arith, bin-rest k (s % m))
     go false = bin-append (replicate 9 1) (digits b s) (bin-replicate 9 1 (omega arith)) (bin-digits b s)
 
-bin-run : (run : Bool) (kb h z : ℕ) → Bin (runBits run kb h z)
+bin-run : (run : Bool) (kb h z : ℕ) → Bin (pick run (runBits kb h z) [])
 bin-run true kb h z = bin-symbol (runK h) (runM kb (runK h)) 16 z
 bin-run false kb h z = tt
 
@@ -104,7 +104,7 @@ bin-rice f kb b (e ∷ es) zero h plus =
     _
     (bin-symbol (symbolK kb h) (symbolM (symbolK kb h)) b (folded e - plus))
     (bin-append
-    (runBits run kb h′ (owedAfter run es))
+    (pick run (runBits kb h′ (zeros es)) [])
     _
-    (bin-run run kb h′ (owedAfter run es))
-    (bin-rice f kb b es (owedAfter run es) (historyThen run h′) (plusAfter run)))
+    (bin-run run kb h′ (zeros es))
+    (bin-rice f kb b es (pick run (zeros es) 0) (pick run 0 h′) (pick run 1 0)))

@@ -3,6 +3,7 @@ pub mod Answers
 pub mod Bits
 pub mod Bytes
 pub mod Words
+pub mod Tests
 pub mod Buffers
 pub mod Stored
 pub mod Symbol

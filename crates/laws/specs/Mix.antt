@@ -11,31 +11,31 @@ use lib.Pow.{pow-pos, pow-mono}
 use lib.IntN.{ℤ, pos, negsuc, negℤ, _+ℤ_, _-ℤ_, _*ℤ_, +ℤ-idr, +ℤ-negℤ-cancel}
 use lib.Signed.{mag, natAbs-le}
 use Rattle.rules.specs.Answers.{pick}
-use Rattle.rules.specs.Words.{wrap, shiftRight, isZero}
+use Rattle.rules.specs.Words.{wrap, sub32, shiftRight, isZero}
 use Rattle.rules.specs.Buffers.{pairs}
-use Rattle.rules.specs.Mix.{share, rightOf, leftOf, sideOf, midOf, onPair, unmixed, mixed}
+use Rattle.rules.specs.Mix.{share, rightOf, leftOf, midOf, onPair, unmixed, mixed}
 use Rattle.laws.specs.Words.{InBits, in-more, Every, none, one, every-map, AllIn, all-in-more, mag-sub, mag-minus, mag-times, difference-added, wrap-id, wrap-in-l, wrap-in-r}
 
 -- ---- unmixing undoes mixing
 
 module _ (mixBits : ℕ) (mixRes : ℤ) where
-  right-again : (l r : ℤ) → InBits 32 r → rightOf mixBits mixRes (midOf mixBits mixRes l r) (sideOf l r) ≡ r
+  right-again : (l r : ℤ) → InBits 32 r → rightOf mixBits mixRes (midOf mixBits mixRes l r) (sub32 l r) ≡ r
   unfolding rightOf midOf
   right-again l r g =
-      let s = share mixBits mixRes (sideOf l r) in
+      let s = share mixBits mixRes (sub32 l r) in
       wrap-in-l 32 32 (r +ℤ s) (negℤ s) (lit≤ tt) ∙ ap (wrap 32) (+ℤ-negℤ-cancel r s) ∙ wrap-id 32 r (lit≤ tt) g
 
-  left-again : (l r : ℤ) → InBits 32 l → InBits 32 r → leftOf mixBits mixRes (midOf mixBits mixRes l r) (sideOf l r) ≡ l
+  left-again : (l r : ℤ) → InBits 32 l → InBits 32 r → leftOf mixBits mixRes (midOf mixBits mixRes l r) (sub32 l r) ≡ l
   unfolding leftOf
   left-again l r f g =
-      ap (λ (z : ℤ). wrap 32 (z +ℤ sideOf l r)) (right-again l r g)
+      ap (λ (z : ℤ). wrap 32 (z +ℤ sub32 l r)) (right-again l r g)
       ∙ wrap-in-r 32 32 r (l -ℤ r) (lit≤ tt)
       ∙ ap (wrap 32) (difference-added r l)
       ∙ wrap-id 32 l (lit≤ tt) f
 
   pair-again : {ls rs : List ℤ} → AllIn 32 ls → AllIn 32 rs → length ls ≡ length rs
       → let us = pairs (midOf mixBits mixRes) ls rs in
-      let vs = pairs sideOf ls rs in
+      let vs = pairs sub32 ls rs in
       (pairs (leftOf mixBits mixRes) us vs ≡ ls) × (pairs (rightOf mixBits mixRes) us vs ≡ rs)
   unfolding pairs
   pair-again none none e = (refl, refl)
@@ -46,7 +46,7 @@ module _ (mixBits : ℕ) (mixRes : ℤ) where
       (ap₂ _∷_ (left-again l r f g) (rest .0), ap₂ _∷_ (right-again l r g) (rest .1))
 
   on-pair-again : (n : ℕ) {chans : List (List ℤ)} → Every (λ c. length c ≡ n) chans → Every (AllIn 32) chans
-      → onPair (leftOf mixBits mixRes) (rightOf mixBits mixRes) (onPair (midOf mixBits mixRes) sideOf chans) ≡ chans
+      → onPair (leftOf mixBits mixRes) (rightOf mixBits mixRes) (onPair (midOf mixBits mixRes) sub32 chans) ≡ chans
   unfolding onPair
   on-pair-again n none none = refl
   on-pair-again n (one k none) (one f none) = refl
@@ -56,7 +56,7 @@ module _ (mixBits : ℕ) (mixRes : ℤ) where
   on-pair-again n (one k (one l (one m ks))) (one f (one g (one h fs))) = refl
 
   again-by : (t : Bool) (n : ℕ) {chans : List (List ℤ)} → Every (λ c. length c ≡ n) chans → Every (AllIn 32) chans
-      → let us = pick t chans (onPair (midOf mixBits mixRes) sideOf chans) in
+      → let us = pick t chans (onPair (midOf mixBits mixRes) sub32 chans) in
       pick t us (onPair (leftOf mixBits mixRes) (rightOf mixBits mixRes) us) ≡ chans
   again-by true n long h = refl
   again-by false n long h = on-pair-again n long h
@@ -99,10 +99,10 @@ module _ (d mixBits mixRes : ℕ) (h : 1 ≤ d) (k : d ≤ 24) (few : mixRes ≤
         omega (arith, mag-minus l r, pow-suc 2 d)
 
     -- nothing wraps
-    side-is : sideOf l r ≡ l -ℤ r
+    side-is : sub32 l r ≡ l -ℤ r
     side-is = wrap-id 32 (l -ℤ r) (lit≤ tt) (in-more (suc d) 32 (l -ℤ r) (omega arith) difference-in)
 
-    side-in : InBits (suc d) (sideOf l r)
+    side-in : InBits (suc d) (sub32 l r)
     side-in = rw side-is difference-in
 
     product-in : InBits 32 ((l -ℤ r) *ℤ pos mixRes)
@@ -110,7 +110,7 @@ module _ (d mixBits mixRes : ℕ) (h : 1 ≤ d) (k : d ≤ 24) (few : mixRes ≤
         let a : mag (l -ℤ r) < 16777216 = omega (arith, difference-in, pow-mono {i = suc d} {j = 25} (suc-le-suc k)) in
         omega (arith, mag-times (l -ℤ r) (pos mixRes), mul-le-mul (natAbs-le (l -ℤ r) a) few)
 
-    share-is : share mixBits (pos mixRes) (sideOf l r) ≡ shiftRight ((l -ℤ r) *ℤ pos mixRes) mixBits
+    share-is : share mixBits (pos mixRes) (sub32 l r) ≡ shiftRight ((l -ℤ r) *ℤ pos mixRes) mixBits
     unfolding share
     share-is = rw (side-is, wrap-id 32 ((l -ℤ r) *ℤ pos mixRes) (lit≤ tt) product-in)
 
@@ -123,7 +123,7 @@ module _ (d mixBits mixRes : ℕ) (h : 1 ≤ d) (k : d ≤ 24) (few : mixRes ≤
         rw (share-is, wrap-id 32 (r +ℤ s) (lit≤ tt) (in-more d 32 (r +ℤ s) (omega arith) i)) i
 
   pairs-in : {ls rs : List ℤ} → AllIn d ls → AllIn d rs
-      → AllIn d (pairs (midOf mixBits (pos mixRes)) ls rs) × AllIn (suc d) (pairs sideOf ls rs)
+      → AllIn d (pairs (midOf mixBits (pos mixRes)) ls rs) × AllIn (suc d) (pairs sub32 ls rs)
   unfolding pairs
   pairs-in none rs = (none, none)
   pairs-in (one f fs) none = (none, none)
@@ -136,7 +136,7 @@ module _ (d mixBits mixRes : ℕ) (h : 1 ≤ d) (k : d ≤ 24) (few : mixRes ≤
   as-they-are (one {xs = more} f fs) = every-map (λ c. all-in-more d (d + suc (length more) - 1) (omega arith)) (one f fs)
 
   mixed-by : (t : Bool) {chans : List (List ℤ)} → Every (AllIn d) chans
-      → Every (AllIn (d + length chans - 1)) (pick t chans (onPair (midOf mixBits (pos mixRes)) sideOf chans))
+      → Every (AllIn (d + length chans - 1)) (pick t chans (onPair (midOf mixBits (pos mixRes)) sub32 chans))
   unfolding onPair
   mixed-by true fs = as-they-are fs
   mixed-by false none = none

@@ -19,9 +19,10 @@ use Rattle.rules.specs.Answers.{got, bind, pick}
 use Rattle.rules.specs.Words.{unfolded, folded, log2}
 use Rattle.rules.specs.Symbol.{symbol}
 use Rattle.rules.specs.Rice.{symbolK, symbolM, runK, runM, historyAfter, runFollows, Step, none, SymbolReader, runAt, afterValue, sample, rice}
-use Rattle.rules.specs.Writer.{symbolBits, zeros, owedAfter, runBits, historyThen, plusAfter, riceCode}
+use Rattle.rules.specs.Writer.{symbolBits, zeros, runBits, riceCode}
 use Rattle.laws.specs.Bits.{At, at-first, at-next}
 use Rattle.laws.specs.Symbol.{symbol-at}
+use Rattle.laws.specs.Tests.{and-parts}
 
 -- ---- folded signs
 
@@ -73,10 +74,6 @@ unfolding symbolK
 symbolK-le kb h l = omega (arith, log2-le (h / 512 + 3) 16 (omega arith) (omega arith) (omega arith))
 
 -- ---- the run's k, by one test over all histories that a run can follow
-
-pub and-parts : (a b : Bool) → a && b ≡ true → (a ≡ true) × (b ≡ true)
-and-parts true b e = (refl, e)
-and-parts false b e = (e, cc)
 
 -- the test holds of every number below n
 unfoldable allBelow : ℕ → (ℕ → Bool) → Bool
@@ -159,7 +156,7 @@ SymbolsBack bits S =
 
 -- how things stand after a sample, where a run follows and where none does
 abbrev stepAfter : Bool → ℤ → ℕ → List ℤ → Step
-stepAfter run e h es = record { residual = e; history = historyThen run h; owed = owedAfter run es; plus = plusAfter run }
+stepAfter run e h es = record { residual = e; history = pick run 0 h; owed = pick run (zeros es) 0; plus = pick run 1 0 }
 
 module _ (bits : List ℕ) (S : SymbolReader) (f kb b : ℕ) where
   -- residuals, written at place p, are read back, with the history after each
@@ -170,8 +167,8 @@ module _ (bits : List ℕ) (S : SymbolReader) (f kb b : ℕ) where
       → rice S f kb b (length es) owed h plus p ≡ got (record { residuals = es; histories = code .histories }) (p + length (code .bits))
 
 module _ (bits : List ℕ) (S : SymbolReader) (S-at : SymbolsBack bits S) (f kb b : ℕ) (kb-le : 8 ≤ kb) (b-le : b ≤ 32) where
-  run-at : {p : ℕ} (h : ℕ) (es : List ℤ) → h < 128 → length es < 2 ^ 16 → At bits p (runBits true kb h (zeros es))
-      → runAt S f kb b h (length es) p ≡ got (zeros es) (p + length (runBits true kb h (zeros es)))
+  run-at : {p : ℕ} (h : ℕ) (es : List ℤ) → h < 128 → length es < 2 ^ 16 → At bits p (runBits kb h (zeros es))
+      → runAt S f kb b h (length es) p ≡ got (zeros es) (p + length (runBits kb h (zeros es)))
   unfolding runAt bind
   run-at {p} h es l n a =
       let k : (2 ≤ runK h) × (runK h ≤ 8) = runK-range h l in
@@ -182,7 +179,7 @@ module _ (bits : List ℕ) (S : SymbolReader) (S-at : SymbolsBack bits S) (f kb 
   -- what follows the sample's own symbol
   afterValue-at : {p : ℕ} (h : ℕ) (e : ℤ) (es : List ℤ) (run : Bool)
       → let h′ = historyAfter f h (folded e) in
-      let u = runBits run kb h′ (owedAfter run es) in
+      let u = pick run (runBits kb h′ (zeros es)) [] in
       length es < 2 ^ 16 → runFollows h′ (length es) ≡ run → At bits p u
       → afterValue S f kb b h (length es) (folded e) p ≡ got (stepAfter run e h′ es) (p + length u)
   unfolding afterValue bind
@@ -195,7 +192,7 @@ module _ (bits : List ℕ) (S : SymbolReader) (S-at : SymbolsBack bits S) (f kb 
   sample-at : {p : ℕ} (h plus : ℕ) (e : ℤ) (es : List ℤ) (run : Bool)
       → let h′ = historyAfter f h (folded e) in
       let w = symbolBits (symbolK kb h) (symbolM (symbolK kb h)) b (folded e - plus) in
-      let u = runBits run kb h′ (owedAfter run es) in
+      let u = pick run (runBits kb h′ (zeros es)) [] in
       plus ≤ folded e → folded e < 2 ^ b → length es < 2 ^ 16 → runFollows h′ (length es) ≡ run → At bits p (w ++ u)
       → sample S f kb b h plus (length es) p ≡ got (stepAfter run e h′ es) (p + length w + length u)
   unfolding sample bind
@@ -209,24 +206,24 @@ module _ (bits : List ℕ) (S : SymbolReader) (S-at : SymbolsBack bits S) (f kb 
 
   -- a sample that is read, and what follows it
   cons-at : (e : ℤ) (es : List ℤ) (h plus p : ℕ) → plus ≤ folded e → folded e < 2 ^ b → length es < 2 ^ 16
-      → ((run : Bool) (h q : ℕ) → RiceBack bits S f kb b es (owedAfter run es) h (plusAfter run) q)
+      → ((run : Bool) (h q : ℕ) → RiceBack bits S f kb b es (pick run (zeros es) 0) h (pick run 1 0) q)
       → RiceBack bits S f kb b (e ∷ es) 0 h plus p
   unfolding rice bind riceCode
   cons-at e es h plus p le lt n back a =
       let h′ : ℕ = historyAfter f h (folded e) in
       let run : Bool = runFollows h′ (length es) in
       let w : List ℕ = symbolBits (symbolK kb h) (symbolM (symbolK kb h)) b (folded e - plus) in
-      let u : List ℕ = runBits run kb h′ (owedAfter run es) in
-      let t : List ℕ = riceCode f kb b es (owedAfter run es) (historyThen run h′) (plusAfter run) .bits in
+      let u : List ℕ = pick run (runBits kb h′ (zeros es)) [] in
+      let t : List ℕ = riceCode f kb b es (pick run (zeros es) 0) (pick run 0 h′) (pick run 1 0) .bits in
       let a₁ : At bits p (w ++ u ++ t) = rw (append-assoc w u t) a in
       let l : length (w ++ u) ≡ length w + length u = length-append w u in
       let a₂ : At bits (p + length w + length u) t = subst (λ (q : ℕ). At bits q t) (omega arith) (at-next (w ++ u) t a₁) in
       let end : p + length w + length u + length t ≡ p + length (w ++ (u ++ t)) = omega (arith, length-append w (u ++ t), length-append u t) in
-      rw (sample-at h plus e es run le lt n refl (at-first (w ++ u) t a₁), back run (historyThen run h′) (p + length w + length u) a₂, end)
+      rw (sample-at h plus e es run le lt n refl (at-first (w ++ u) t a₁), back run (pick run 0 h′) (p + length w + length u) a₂, end)
 
-  -- Between samples the state is `owedAfter run es` and `plusAfter run`: zeros are owed exactly where a run was written, and after them no 0 comes
+  -- Between samples the state is `pick run (zeros es) 0` and `pick run 1 0`: zeros are owed exactly where a run was written, and after them no 0 comes
   pub rice-at : (es : List ℤ) (run : Bool) (h p : ℕ) → Ranged b es → length es ≤ 2 ^ 16
-      → RiceBack bits S f kb b es (owedAfter run es) h (plusAfter run) p
+      → RiceBack bits S f kb b es (pick run (zeros es) 0) h (pick run 1 0) p
   unfolding rice bind riceCode zeros folded
   rice-at [] run h p r n a = ap (got none) (omega arith)
   rice-at (e ∷ es) false h p r n a =

@@ -15,17 +15,17 @@ use Rattle.rules.specs.declared.ChannelSettings.{ChannelSettings}
 use Rattle.rules.specs.declared.PackingSettings.{PackingSettings}
 use Rattle.rules.specs.Answers.{pick}
 use Rattle.rules.specs.Bits.{digits}
-use Rattle.rules.specs.Words.{modZ, isZero}
+use Rattle.rules.specs.Words.{modZ, sub32, isZero}
 use Rattle.rules.specs.Stream.{i32Output, accepted, factor}
 use Rattle.rules.specs.Buffers.{lanes, pairs}
-use Rattle.rules.specs.Mix.{midOf, sideOf, onPair, mixed}
+use Rattle.rules.specs.Mix.{midOf, onPair, mixed}
 use Rattle.rules.specs.Prediction.{Adapted}
 use Rattle.rules.specs.Element.{allOf}
 use Rattle.rules.specs.Writer.{residuals, channelInRange, mixInRange, settingsUsed, inRange, passageFits, writtenBits, coefsUsed, joined, paramBits, countBits, headBits, bitLimit, channelCode, channelCodes, packetBits, packetBytes}
 use Rattle.laws.specs.Bits.{length-digits, length-padded, Bin, bin-append, bin-digits}
 use Rattle.laws.specs.Words.{Every, none, one, AllIn}
 use Rattle.laws.specs.Buffers.{pairs-length, lanes-count, lanes-length, every-lane}
-use Rattle.laws.specs.Rice.{and-parts}
+use Rattle.laws.specs.Tests.{and-parts, chain-passed, AcceptedFields, accepted-fields}
 use Rattle.laws.specs.Prediction.{residuals-length}
 use Rattle.laws.specs.Mix.{mixed-in}
 use Rattle.laws.specs.Length.{rice-length, bin-rice}
@@ -71,7 +71,6 @@ pub record Told (s : StreamInfo) (t : PackingSettings) (passage : List ℤ) : Ty
   pub channels-le : s .«num_channels» ≤ 2
   pub kb-ge : 8 ≤ s .kb
   pub kb-le : s .kb ≤ 31
-  pub frame-ge : 1 ≤ s .«frame_length»
   pub frame-le : s .«frame_length» ≤ 4096
   pub used : length (settingsUsed s t) ≡ s .«num_channels»
   pub channels-in : Every (ChannelTold s) (settingsUsed s t)
@@ -104,22 +103,6 @@ module _ {A : Type 0} where
       let p = and-parts (ok x) (allOf ok xs) e in
       one (f x (p .0)) (each-of-all ok f xs (p .1))
 
--- tests joined by `&&`, one after the other
-abbrev chain : Bool → List Bool → Bool
-chain a [] = a
-chain a (b ∷ bs) = chain (a && b) bs
-
-abbrev Passed : List Bool → Type 0
-Passed [] = Unit {0}
-Passed (b ∷ bs) = (b ≡ true) × Passed bs
-
-chain-passed : (a : Bool) (bs : List Bool) → chain a bs ≡ true → Passed (a ∷ bs)
-chain-passed a [] e = (e, tt)
-chain-passed a (b ∷ bs) e =
-    let r = chain-passed (a && b) bs e in
-    let p = and-parts a b (r .0) in
-    (p .0, (p .1, r .1))
-
 module _ (s : StreamInfo) where
   channel-told : (c : ChannelSettings) → channelInRange s c ≡ true → ChannelTold s c
   unfolding channelInRange
@@ -135,7 +118,7 @@ module _ (s : StreamInfo) where
 
   module _ (t : PackingSettings) (passage : List ℤ) where
     pub told : Writable s t passage → Told s t passage
-    unfolding accepted inRange mixInRange passageFits
+    unfolding inRange mixInRange passageFits
     told w =
         let frame : ℕ = s .«frame_length» in
         let depth : ℕ = s .«bit_depth» in
@@ -144,7 +127,7 @@ module _ (s : StreamInfo) where
         let mixRes : ℕ = t .«mix_res» in
         let all : Bool = allOf (channelInRange s) (settingsUsed s t) in
         let mix : Bool = eqb channels 2 || (eqb mixBits 0 && eqb mixRes 0) in
-        let a = chain-passed (leb 1 frame) (leb frame 4096 ∷ i32Output .takes depth ∷ leb 1 channels ∷ leb channels 8 ∷ leb 1 (s .kb) ∷ leb (s .kb) 31 ∷ []) (w .reader) in
+        let a = accepted-fields i32Output s (w .reader) in
         let r = chain-passed (eqb depth 16) (leb channels 2 ∷ leb 8 (s .kb) ∷ leb (s .kb) 31 ∷ all ∷ mixInRange channels mixBits mixRes ∷ []) (w .ranges) in
         let m = chain-passed (leb mixBits 7) (leb mixRes (min 127 (2 ^ mixBits)) ∷ mix ∷ []) (r .1 .1 .1 .1 .1 .0) in
         let p = chain-passed (leb (length passage) (frame * channels)) (eqb (length passage % channels) 0 ∷ []) (w .fits) in
@@ -153,12 +136,11 @@ module _ (s : StreamInfo) where
         record {
           mb-lt = w .mb-byte;
           depth = eqb-true depth 16 (r .0);
-          channels-ge = leb-true 1 channels (a .1 .1 .1 .0);
+          channels-ge = a .channels-ge;
           channels-le = two;
           kb-ge = leb-true 8 (s .kb) (r .1 .1 .0);
           kb-le = leb-true (s .kb) 31 (r .1 .1 .1 .0);
-          frame-ge = leb-true 1 frame (a .0);
-          frame-le = leb-true frame 4096 (a .1 .0);
+          frame-le = a .frame-le;
           used = length-take-le channels (t .first ∷ t .second ∷ []) two;
           channels-in = each-of-all (channelInRange s) channel-told (settingsUsed s t) (r .1 .1 .1 .1 .0);
           mix-bits-le = leb-true mixBits 7 (m .0);
@@ -181,7 +163,7 @@ module _ (mixBits : ℕ) (mixRes : ℤ) where
   unfolding mixed onPair
   mixed-count = go (isZero mixRes)
     where
-      go : (z : Bool) (chans : List (List ℤ)) → length (pick z chans (onPair (midOf mixBits mixRes) sideOf chans)) ≡ length chans
+      go : (z : Bool) (chans : List (List ℤ)) → length (pick z chans (onPair (midOf mixBits mixRes) sub32 chans)) ≡ length chans
       go true chans = refl
       go false [] = refl
       go false (us ∷ []) = refl
@@ -192,12 +174,12 @@ module _ (mixBits : ℕ) (mixRes : ℤ) where
   unfolding mixed onPair
   mixed-length n = go (isZero mixRes)
     where
-      go : (z : Bool) {chans : List (List ℤ)} → Every (λ xs. length xs ≡ n) chans → Every (λ xs. length xs ≡ n) (pick z chans (onPair (midOf mixBits mixRes) sideOf chans))
+      go : (z : Bool) {chans : List (List ℤ)} → Every (λ xs. length xs ≡ n) chans → Every (λ xs. length xs ≡ n) (pick z chans (onPair (midOf mixBits mixRes) sub32 chans))
       go true ls = ls
       go false none = none
       go false (one k none) = one k none
       go false (one {x = us} k (one {x = vs} l none)) =
-          one (pairs-length (midOf mixBits mixRes) us vs k l) (one (pairs-length sideOf us vs k l) none)
+          one (pairs-length (midOf mixBits mixRes) us vs k l) (one (pairs-length sub32 us vs k l) none)
       go false (one k (one l (one m ls))) = one k (one l (one m ls))
 
 module _ (s : StreamInfo) (t : PackingSettings) (passage : List ℤ) where

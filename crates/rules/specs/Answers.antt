@@ -8,11 +8,21 @@ pub data Ans (A : Type 0) : Type 0 where
   got : A → ℕ → Ans A
   bad : Refusal → ℕ → Ans A
 
--- a if the test holds, else b
+-- what is read from a place on
+abbrev pub Read : Type 0 → Type 0
+Read A = ℕ → Ans A
+
 module _ {A : Type 0} where
+  -- a if the test holds, else b
   abbrev pub pick : Bool → A → A → A
   pick true a b = a
   pick false a b = b
+
+  abbrev pub give : A → Read A
+  give a p = got a p
+
+  abbrev pub refuse : Refusal → Read A
+  refuse x p = bad x p
 
 module _ {A B : Type 0} where
   -- goes on with the value and the place after it; a refusal ends the packet there
@@ -25,10 +35,6 @@ module _ {A B : Type 0} where
   answered f (got a p) = got (f a) p
   answered f (bad x p) = bad x p
 
--- what is read from a place on
-abbrev pub Read : Type 0 → Type 0
-Read A = ℕ → Ans A
-
 infixl 10 _>>=_ _>>_
 module _ {A B : Type 0} where
   abbrev pub _>>=_ : Read A → (A → Read B) → Read B
@@ -36,13 +42,6 @@ module _ {A B : Type 0} where
 
   abbrev pub _>>_ : Read A → Read B → Read B
   _>>_ first next p = bind (first p) (λ a q. next q)
-
-module _ {A : Type 0} where
-  abbrev pub give : A → Read A
-  give a p = got a p
-
-  abbrev pub refuse : Refusal → Read A
-  refuse x p = bad x p
 
 module _ {A : Type 0} where
   -- n times the same

@@ -18,13 +18,9 @@ rightOf mixBits mixRes u v = sub32 u (share mixBits mixRes v)
 unfoldable pub leftOf : ℕ → ℤ → ℤ → ℤ → ℤ
 leftOf mixBits mixRes u v = add32 (rightOf mixBits mixRes u v) v
 
--- v = l - r
-abbrev pub sideOf : ℤ → ℤ → ℤ
-sideOf l r = sub32 l r
-
--- u = r + share
+-- v = l - r, which wraps, and u = r + share
 unfoldable pub midOf : ℕ → ℤ → ℤ → ℤ → ℤ
-midOf mixBits mixRes l r = add32 r (share mixBits mixRes (sideOf l r))
+midOf mixBits mixRes l r = add32 r (share mixBits mixRes (sub32 l r))
 
 -- two channels become two others; anything else is as it is
 unfoldable pub onPair : (ℤ → ℤ → ℤ) → (ℤ → ℤ → ℤ) → List (List ℤ) → List (List ℤ)
@@ -38,4 +34,4 @@ unfoldable pub unmixed : ℕ → ℤ → List (List ℤ) → List (List ℤ)
 unmixed mixBits mixRes chans = pick (isZero mixRes) chans (onPair (leftOf mixBits mixRes) (rightOf mixBits mixRes) chans)
 
 unfoldable pub mixed : ℕ → ℤ → List (List ℤ) → List (List ℤ)
-mixed mixBits mixRes chans = pick (isZero mixRes) chans (onPair (midOf mixBits mixRes) sideOf chans)
+mixed mixBits mixRes chans = pick (isZero mixRes) chans (onPair (midOf mixBits mixRes) sub32 chans)

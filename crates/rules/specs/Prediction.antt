@@ -63,15 +63,12 @@ pub record Adapted : Type 0 where
   pub values : List ℤ
   pub coefs : List (List ℤ)
 
-abbrev pub begun : Adapted
-begun = record { values = []; coefs = [] }
-
 abbrev pub before : ℤ → List ℤ → Adapted → Adapted
 before x cs a = record { values = x ∷ a .values; coefs = cs ∷ a .coefs }
 
 -- the samples that follow `past`
 unfoldable pub predicted : ℕ → ℕ → List ℤ → List ℤ → List ℤ → Adapted
-predicted b quant past cs [] = begun
+predicted b quant past cs [] = record { values = []; coefs = [] }
 predicted b quant past cs (e ∷ es) =
     let s = next b quant past cs e in
     let cs′ = coefsAfter quant past cs e in

@@ -1,6 +1,5 @@
--- Document 01, "When the dock is told no": the number of each cause, and the number, count and place of each answer.
+-- Document 01, "When the dock is told no": the number of each cause, and the number and count of each answer.
 use Prim.Native.Nat.{ℕ}
-use Rattle.rules.specs.declared.Place.{Place}
 use Rattle.rules.specs.declared.Refusal.{Refusal}
 use Rattle.rules.specs.declared.Refusal.the-variants.{Cookie, Stream, Room, Short, ManyChannels, Unused, Shift, Partial, WideChannel, NoChannelBits, Parameters, Mode, Run, Unsupported, Disagree, ShiftedRaw, FewChannels, Fill, Settings, Passage, Bytes}
 use Rattle.rules.specs.declared.CookieAnswer.{CookieAnswer}
@@ -68,10 +67,6 @@ readNumber (read.Refused x at) = number x
 abbrev pub readCount : Answer → ℕ
 readCount (read.Accepted n at) = n
 readCount (read.Refused x at) = 0
-
-abbrev pub readPlace : Answer → Place
-readPlace (read.Accepted n at) = at
-readPlace (read.Refused x at) = at
 
 -- an accepted write counts the packet's bytes
 abbrev pub packedNumber : Packed → ℕ

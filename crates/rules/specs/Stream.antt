@@ -25,10 +25,8 @@ i32Output = record {
 -- frame length 1..4096; the depth; 1..8 channels; kb 1..31. Other fields are not judged
 unfoldable pub accepted : Width → StreamInfo → Bool
 accepted w s =
-    leb 1 (s .«frame_length») && leb (s .«frame_length») 4096
-    && w .takes (s .«bit_depth»)
-    && leb 1 (s .«num_channels») && leb (s .«num_channels») 8
-    && leb 1 (s .kb) && leb (s .kb) 31
+    leb 1 (s .«frame_length») && leb (s .«frame_length») 4096 && w .takes (s .«bit_depth»)
+    && leb 1 (s .«num_channels») && leb (s .«num_channels») 8 && leb 1 (s .kb) && leb (s .kb) 31
 
 -- output needs frame length x channels places, scratch 2 x frame length
 abbrev pub outputPlaces : StreamInfo → ℕ

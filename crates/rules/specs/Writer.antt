@@ -13,11 +13,11 @@ use Rattle.rules.specs.declared.Packed.the-variants.{Accepted, Refused}
 use Rattle.rules.specs.declared.Refusal.the-variants.{Stream, Room, Settings, Passage, Bytes}
 use Rattle.rules.specs.Answers.{pick}
 use Rattle.rules.specs.Bits.{digits, padded}
-use Rattle.rules.specs.Words.{modZ, wrap, sub32, folded}
+use Rattle.rules.specs.Words.{modZ, wrap, sub32, isZero, folded}
 use Rattle.rules.specs.Stream.{i32Output, accepted, scratchPlaces, factor, channelBits}
 use Rattle.rules.specs.Buffers.{laid, cleared, lanes, pairs}
 use Rattle.rules.specs.Rice.{symbolK, symbolM, runK, runM, historyAfter, runFollows}
-use Rattle.rules.specs.Prediction.{Adapted, begun, before, forecast, coefsAfter}
+use Rattle.rules.specs.Prediction.{Adapted, before, forecast, coefsAfter}
 use Rattle.rules.specs.Mix.{mixed}
 use Rattle.rules.specs.Element.{Track, allOf}
 
@@ -34,32 +34,17 @@ symbolBits k m b v = pick (ltb (v / m) 9) (replicate (v / m) 1 ++ 0 ∷ restBits
 -- runs are as long as the zeros go
 unfoldable pub zeros : List ℤ → ℕ
 zeros [] = 0
-zeros (pos zero ∷ es) = suc (zeros es)
-zeros (pos (suc n) ∷ es) = 0
-zeros (negsuc n ∷ es) = 0
+zeros (e ∷ es) = pick (isZero e) (suc (zeros es)) 0
 
--- where a run follows: its zeros, its bits, the history after it, and what the next symbol gains
-abbrev pub owedAfter : Bool → List ℤ → ℕ
-owedAfter true es = zeros es
-owedAfter false es = 0
-
-abbrev pub runBits : Bool → ℕ → ℕ → ℕ → List ℕ
-runBits true kb h z = symbolBits (runK h) (runM kb (runK h)) 16 z
-runBits false kb h z = []
-
-abbrev pub historyThen : Bool → ℕ → ℕ
-historyThen true h = 0
-historyThen false h = h
-
-abbrev pub plusAfter : Bool → ℕ
-plusAfter true = 1
-plusAfter false = 0
+-- a run of z zeros
+abbrev pub runBits : ℕ → ℕ → ℕ → List ℕ
+runBits kb h z = symbolBits (runK h) (runM kb (runK h)) 16 z
 
 pub record RiceCode : Type 0 where
   pub bits : List ℕ
   pub histories : List ℕ
 
--- the bits of residuals, and the history after each
+-- the bits of residuals, and the history after each; a run sets h to 0, and the next symbol has 1 less
 unfoldable pub riceCode : ℕ → ℕ → ℕ → List ℤ → ℕ → ℕ → ℕ → RiceCode
 riceCode f kb b [] owed h plus = record { bits = []; histories = [] }
 riceCode f kb b (e ∷ es) (suc owed) h plus =
@@ -68,10 +53,10 @@ riceCode f kb b (e ∷ es) (suc owed) h plus =
 riceCode f kb b (e ∷ es) zero h plus =
     let h′ = historyAfter f h (folded e) in
     let run = runFollows h′ (length es) in
-    let rest = riceCode f kb b es (owedAfter run es) (historyThen run h′) (plusAfter run) in
+    let rest = riceCode f kb b es (pick run (zeros es) 0) (pick run 0 h′) (pick run 1 0) in
     record {
-      bits = symbolBits (symbolK kb h) (symbolM (symbolK kb h)) b (folded e - plus) ++ (runBits run kb h′ (owedAfter run es) ++ rest .bits);
-      histories = historyThen run h′ ∷ rest .histories;
+      bits = symbolBits (symbolK kb h) (symbolM (symbolK kb h)) b (folded e - plus) ++ (pick run (runBits kb h′ (zeros es)) [] ++ rest .bits);
+      histories = pick run 0 h′ ∷ rest .histories;
     }
 
 -- ---- the residuals
@@ -82,7 +67,7 @@ residual b quant past cs x = pick (eqb (length past) 0) x (wrap b (sub32 x (fore
 
 -- of all samples, with the coefficients after each
 unfoldable pub residuals : ℕ → ℕ → List ℤ → List ℤ → List ℤ → Adapted
-residuals b quant past cs [] = begun
+residuals b quant past cs [] = record { values = []; coefs = [] }
 residuals b quant past cs (x ∷ xs) =
     let e = residual b quant past cs x in
     let cs′ = coefsAfter quant past cs e in
@@ -182,15 +167,9 @@ module _ (s : StreamInfo) (t : PackingSettings) (passage : List ℤ) where
   -- ---- refusals in order: 2, a stream no reader would accept; 3, scratch only; 19; 20; 21
   unfoldable pub packed : ℕ → ℕ → Packed
   packed bytesLength scratchLength =
-      pick (accepted i32Output s)
-      (pick (leb (scratchPlaces s) scratchLength)
-      (pick (inRange s t)
-      (pick (passageFits s t passage)
+      pick (accepted i32Output s) (pick (leb (scratchPlaces s) scratchLength) (pick (inRange s t) (pick (passageFits s t passage)
       (pick (leb (length packetBytes) bytesLength) (Accepted (length packetBytes)) (Refused Bytes))
-      (Refused Passage))
-      (Refused Settings))
-      (Refused Room))
-      (Refused Stream)
+      (Refused Passage)) (Refused Settings)) (Refused Room)) (Refused Stream)
 
   -- bytes are touched only on acceptance, and then only the packet's own
   unfoldable pub bytesAfter : List ℕ → ℕ → List ℕ

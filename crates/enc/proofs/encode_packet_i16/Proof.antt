@@ -5,7 +5,8 @@ use native.Mathlib.Omega.{arith}
 use borrow.Author.Tests.{not-true, not-false}
 use Rattle.rules.specs.Stream.{i32Output}
 use Rattle.laws.specs.Buffers.{laid-length}
-use Rattle.enc.proofs.Entry.{unaccepted, unroomy, unranged, unfitting, packs, channels-some}
+use Rattle.laws.specs.Tests.{AcceptedFields, accepted-fields}
+use Rattle.enc.proofs.Entry.{unaccepted, unroomy, unranged, unfitting, packs}
 use Rattle.enc.proofs.encode_packet_i16.Statement.{statement}
 use Rattle.enc.proofs.encode_packet_i16.Tie as tie
 
@@ -40,7 +41,7 @@ returns-3 : tie.Need-returns-3
 returns-3 c = unranged _ _ _ _ _ (sym (c .before .before .before .before .before .before .before .accepted .ensures .says i32Output (c .before .before .before .before .before .before .before .before .takes-i32 .ensures)) ∙ not-false _ (c .before .before .before .before .before .if1 .left)) (c .before .before .before .before .if2 .left) (c .before .before .clear-i32 .ensures) (sym (c .before .before .before .before .before .before .in-range .ensures) ∙ not-true _ (c .if3 .taken))
 
 passage-fits-requires : tie.Need-passage-fits-requires
-passage-fits-requires c κs = channels-some _ (sym (c .before .before .before .before .before .before .before .accepted .ensures .says i32Output (c .before .before .before .before .before .before .before .before .takes-i32 .ensures)) ∙ not-false _ (c .before .before .before .before .before .if1 .left))
+passage-fits-requires c κs = accepted-fields i32Output _ (sym (c .before .before .before .before .before .before .before .accepted .ensures .says i32Output (c .before .before .before .before .before .before .before .before .takes-i32 .ensures)) ∙ not-false _ (c .before .before .before .before .before .if1 .left)) .channels-ge
 
 same-length-2 : tie.Need-same-length-2
 same-length-2 c = search needs
