@@ -23,7 +23,7 @@ pub fn check() {
         check_all(s);
         return;
     }
-    say::stopped(0, b"the stream is refused: 2");
+    files::refuse_stream();
 }
 
 // The turns are counted down, as in unpacking.

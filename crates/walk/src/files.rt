@@ -2,6 +2,7 @@
 ghost use Rattle.walk.specs.Held.{Holds, Few};
 use crate::say;
 use rules::CookieAnswer;
+use rules::Refusal;
 use rules::StreamInfo;
 use wire::text::Numbers;
 
@@ -22,6 +23,11 @@ fn load(argument: usize, places: &mut [u8]) -> Loaded
 {
     let mut path = io::buffer();
     let n = os::arg(argument, &mut path);
+    if os::errno() != 0 {
+        say::stopping(0);
+        os::fail(b"the name of a file");
+        return Loaded::Failed;
+    }
     let file = os::open_read(&path[..n]);
     if file < 0 {
         say::stopping(0);
@@ -38,14 +44,18 @@ fn load(argument: usize, places: &mut [u8]) -> Loaded
     }
     libc::close(file);
     if more > 0 {
-        say::stopped_with(
-            0,
-            b"a file is longer than it may be, in bytes: ",
-            places.len() as u64,
-        );
+        say::too_long(&path[..n], places.len() as u64);
         return Loaded::Failed;
     }
     Loaded::Filled(got)
+}
+
+pub fn refuse_stream() {
+    say::stopped_with(
+        0,
+        b"the stream is refused: ",
+        rules::number_of(Refusal::Stream) as u64,
+    );
 }
 
 pub fn open_stream() -> Opened {
@@ -82,7 +92,7 @@ pub fn load_numbers(numbers: &mut [i16; 68]) -> Loaded
         Numbers::Wrong(at) => {
             say::stopped_with(
                 0,
-                b"the settings are no numbers of 16 bits at byte ",
+                b"the settings have no number of 16 bits at byte, counted from 0: ",
                 at as u64,
             );
             Loaded::Failed

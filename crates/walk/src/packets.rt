@@ -37,7 +37,7 @@ pub fn next_packet(places: &mut [u8], so_far: Counts) -> Found
     if places.len() < n {
         say::stopped_with(
             so_far.packets,
-            b"no packet has as many bytes as the next length says: ",
+            b"the next length is more than any packet has, in bytes: ",
             n as u64,
         );
         return Found::Stop;

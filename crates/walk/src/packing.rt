@@ -37,7 +37,7 @@ fn pack_with(s: StreamInfo, t: PackingSettings) {
         }
         return;
     }
-    say::stopped(0, b"the stream is refused: 2");
+    files::refuse_stream();
 }
 
 // The writer judges the settings on an empty passage, so that they are refused whatever the input. Its packet fits 256 bytes.

@@ -63,6 +63,14 @@ pub fn stopped_with(packets: u64, why: &[u8], number: u64) {
     text(b"\n");
 }
 
+pub fn too_long(name: &[u8], most: u64) {
+    stopping(0);
+    text(name);
+    text(b" is longer than ");
+    decimal(most);
+    text(b" bytes\n");
+}
+
 pub fn usage() {
     text(b"usage: walk pack COOKIE SETTINGS < samples > packets\n");
     text(b"       walk unpack COOKIE < packets > samples\n");
@@ -78,7 +86,7 @@ pub fn usage() {
     );
 }
 
-pub fn text(bytes: &[u8]) {
+fn text(bytes: &[u8]) {
     io::write_all(STDERR_FILENO, bytes);
 }
 

@@ -25,7 +25,7 @@ pub fn unpack() {
         unpack_all(s);
         return;
     }
-    say::stopped(0, b"the stream is refused: 2");
+    files::refuse_stream();
 }
 
 // A proved loop has to end, and nothing says that the input does: the turns are counted down from a number that no run uses up.

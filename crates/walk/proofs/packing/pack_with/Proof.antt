@@ -24,11 +24,8 @@ returns c = search needs
 returns-2 : tie.Need-returns-2
 returns-2 c = search needs
 
-slice-aggregate-stopped : tie.Need-slice-aggregate-stopped
-slice-aggregate-stopped c = search needs
-
-stopped-requires : tie.Need-stopped-requires
-stopped-requires c κs = search needs
+refuse-stream-requires : tie.Need-refuse-stream-requires
+refuse-stream-requires c κs = search needs
 
 returns-3 : tie.Need-returns-3
 returns-3 c = search needs
@@ -43,6 +40,5 @@ pack-with-spec =
     pack-all-requires
     returns
     returns-2
-    slice-aggregate-stopped
-    stopped-requires
+    refuse-stream-requires
     returns-3)

@@ -30,11 +30,8 @@ unpack-all-requires c κs = small i16Output _ (sym (c .before .accepted .ensures
 returns-2 : tie.Need-returns-2
 returns-2 c = search needs
 
-slice-aggregate-stopped : tie.Need-slice-aggregate-stopped
-slice-aggregate-stopped c = search needs
-
-stopped-requires : tie.Need-stopped-requires
-stopped-requires c κs = search needs
+refuse-stream-requires : tie.Need-refuse-stream-requires
+refuse-stream-requires c κs = search needs
 
 returns-3 : tie.Need-returns-3
 returns-3 c = search needs
@@ -51,6 +48,5 @@ unpack-spec =
     accepted-requires
     unpack-all-requires
     returns-2
-    slice-aggregate-stopped
-    stopped-requires
+    refuse-stream-requires
     returns-3)
