@@ -1,4 +1,1 @@
-pub mod Laws
-pub mod RawLaws
-pub mod Finished
-pub mod Sounds
+mod Sounds

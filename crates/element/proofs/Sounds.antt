@@ -28,12 +28,13 @@ use Rattle.bitcursor.specs.declared.Reached.the-variants as reached
 use Rattle.bitcursor.specs.Reads.{toldAs, PlainAt, Reaches}
 use Rattle.bitcursor.proofs.Laws.{reached-of, refused-of, reached-plain-of, refused-plain-of}
 use Rattle.mix.specs.Halves.{parts, withParts}
+use Rattle.mix.specs.Fills.{Laid, Fills, Roomy}
 use Rattle.mix.proofs.Halves.{with-length, with-rest, parts-with, with-with}
 use Rattle.element.specs.declared.Heard.{Heard}
 use Rattle.element.specs.declared.Heard.the-variants as heard
 use Rattle.element.specs.Heard.{untracked, toldSound, PlainHeard, scratchHeard, Hears}
-use Rattle.element.specs.Fills.{Laid, Fills, Roomy, here, Sounds, heardOf, Left, Hearing}
-use Rattle.element.proofs.Finished.{parts-formed}
+use Rattle.element.specs.Sounds.{afterPlan, here, Sounds, heardOf, Left, Hearing}
+use Rattle.finish.proofs.Finished.{parts-formed}
 
 -- ---- the last of the parts leaves the sound's channels where the first ones lay
 
@@ -105,41 +106,50 @@ module _ (bits : List ℕ) (s : StreamInfo) (w shift n p : ℕ) where
     unfolding compressed bind
     plan-refused e = rw (le-leb b 32 b-le, lt-ltb 0 b b-ge, e)
 
-    module _ {plan : Plan} {q : ℕ} (e : planned bits s w p ≡ got plan q) where
-      pub extra-refused : skip bits (shift * (n * w)) q ≡ bad refusal.Short q → whole ≡ bad refusal.Short q
-      unfolding compressed bind
-      extra-refused f = rw (le-leb b 32 b-le, lt-ltb 0 b b-ge, e, extra-bad bits (n * w) shift q f)
+    pub plan-read : {plan : Plan} {q : ℕ} → planned bits s w p ≡ got plan q → whole ≡ afterPlan bits s w b shift n plan q
+    unfolding compressed bind afterPlan
+    plan-read e = rw (le-leb b 32 b-le, lt-ltb 0 b b-ge, e)
 
-      module _ {r : ℕ} (f : skip bits (shift * (n * w)) q ≡ got tt r) where
-        abbrev read : Ans (List Channel)
-        read = each (plan .params) (channel bits s n b) r
+-- after the plan
 
-        past : whole ≡ bind read (λ cs t. got (assembled w shift n plan (numbers (n * w) shift (drop q bits)) cs) t)
-        unfolding compressed bind
-        past = rw (le-leb b 32 b-le, lt-ltb 0 b b-ge, e, extra-got bits (n * w) shift q f)
+module _ (bits : List ℕ) (s : StreamInfo) (w b shift n : ℕ) (plan : Plan) (q : ℕ) where
+  abbrev later : Ans Sound
+  later = afterPlan bits s w b shift n plan q
 
-        pub each-refuses : {x : Refusal} {t : ℕ} → answered (map (λ c. c .values)) read ≡ bad x t → whole ≡ bad x t
-        unfolding answered bind
-        each-refuses {x} {t} g = past ∙ go read g
-          where
-            go : (a : Ans (List Channel)) → answered (map (λ c. c .values)) a ≡ bad x t
-                → bind a (λ cs t. got (assembled w shift n plan (numbers (n * w) shift (drop q bits)) cs) t) ≡ bad x t
-            go (got cs u) h = let z : _≡_ {A = ℕ} 0 1 = cc in absurd (omega arith)
-            go (bad y u) h = cc
+  pub extra-refused : skip bits (shift * (n * w)) q ≡ bad refusal.Short q → later ≡ bad refusal.Short q
+  unfolding afterPlan bind
+  extra-refused f = rw (extra-bad bits (n * w) shift q f)
 
-        pub each-sounds : {chans : List (List ℤ)} {t : ℕ} → answered (map (λ c. c .values)) read ≡ got chans t
-            → answered untracked whole ≡ got (record { samples = n; chans = withExtra w shift (numbers (n * w) shift (drop q bits)) (unmixed (plan .mixBits) (plan .mixRes) chans); tracks = [] }) t
-        unfolding answered bind assembled untracked
-        each-sounds {chans} {t} g = ap (answered untracked) past ∙ go read g
-          where
-            go : (a : Ans (List Channel)) → answered (map (λ c. c .values)) a ≡ got chans t
-                → answered untracked (bind a (λ cs t. got (assembled w shift n plan (numbers (n * w) shift (drop q bits)) cs) t))
-                ≡ got (record { samples = n; chans = withExtra w shift (numbers (n * w) shift (drop q bits)) (unmixed (plan .mixBits) (plan .mixRes) chans); tracks = [] }) t
-            go (bad y u) h = let z : _≡_ {A = ℕ} 0 1 = cc in absurd (omega arith)
-            go (got cs u) h =
-                let k : map (λ c. c .values) cs ≡ chans = cc in
-                let l : u ≡ t = cc in
-                rw (k, l)
+  module _ {r : ℕ} (f : skip bits (shift * (n * w)) q ≡ got tt r) where
+    abbrev read : Ans (List Channel)
+    read = each (plan .params) (channel bits s n b) r
+
+    past : later ≡ bind read (λ cs t. got (assembled w shift n plan (numbers (n * w) shift (drop q bits)) cs) t)
+    unfolding afterPlan bind
+    past = rw (extra-got bits (n * w) shift q f)
+
+    pub each-refuses : {x : Refusal} {t : ℕ} → answered (map (λ c. c .values)) read ≡ bad x t → later ≡ bad x t
+    unfolding answered bind
+    each-refuses {x} {t} g = past ∙ go read g
+      where
+        go : (a : Ans (List Channel)) → answered (map (λ c. c .values)) a ≡ bad x t
+            → bind a (λ cs t. got (assembled w shift n plan (numbers (n * w) shift (drop q bits)) cs) t) ≡ bad x t
+        go (got cs u) h = let z : _≡_ {A = ℕ} 0 1 = cc in absurd (omega arith)
+        go (bad y u) h = cc
+
+    pub each-sounds : {chans : List (List ℤ)} {t : ℕ} → answered (map (λ c. c .values)) read ≡ got chans t
+        → answered untracked later ≡ got (record { samples = n; chans = withExtra w shift (numbers (n * w) shift (drop q bits)) (unmixed (plan .mixBits) (plan .mixRes) chans); tracks = [] }) t
+    unfolding answered bind assembled untracked
+    each-sounds {chans} {t} g = ap (answered untracked) past ∙ go read g
+      where
+        go : (a : Ans (List Channel)) → answered (map (λ c. c .values)) a ≡ got chans t
+            → answered untracked (bind a (λ cs t. got (assembled w shift n plan (numbers (n * w) shift (drop q bits)) cs) t))
+            ≡ got (record { samples = n; chans = withExtra w shift (numbers (n * w) shift (drop q bits)) (unmixed (plan .mixBits) (plan .mixRes) chans); tracks = [] }) t
+        go (bad y u) h = let z : _≡_ {A = ℕ} 0 1 = cc in absurd (omega arith)
+        go (got cs u) h =
+            let k : map (λ c. c .values) cs ≡ chans = cc in
+            let l : u ≡ t = cc in
+            rw (k, l)
 
 -- the finished channels of a compressed element
 pub compressed-sounds : (half n w : ℕ) (was mid is : List ℤ) {a : Ans Sound} {pl : Place} (shift mixBits : ℕ) (mixRes : ℤ) (extra : List ℕ)

@@ -1,4 +1,2 @@
 pub mod Heard
-pub mod Fills
-pub mod Raw
-pub mod Finish
+pub mod Sounds

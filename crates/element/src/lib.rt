@@ -1,20 +1,21 @@
 // An audio element after its tag: decode_audio_element of dec.rs.
-mod channels;
-mod finish;
-mod raw;
-
 ghost use mathlib.Core.Path.{_≡_};
 ghost use Prim.Native.Nat.{_*_};
 ghost use Rattle.rules.specs.Bits.{bitOf, bitsOf};
 ghost use Rattle.rules.specs.Element.{compressed, uncompressed, audioElement};
 ghost use Rattle.element.specs.Heard.{Hearable, Hears};
-ghost use Rattle.element.specs.Fills.{Sounding, Sounds, Hearing, heardOf};
+ghost use Rattle.plan.specs.Told.{planOf};
+ghost use Rattle.element.specs.Sounds.{Prepared, afterPlan, Sounding, Sounds, Hearing, heardOf};
 use bitcursor::Reached;
 use bitcursor::skip;
 use buffers::clear_i32;
+use channels::decode_channels;
+use finish::finish;
 use header::HeaderRead;
 use header::read_header;
-use header::read_plan;
+use plan::Plan;
+use plan::read_plan;
+use raw::raw_samples;
 use rules::Place;
 use rules::Refusal;
 use rules::StreamInfo;
@@ -25,7 +26,46 @@ pub enum Heard {
     Refused(Refusal, Place),
 }
 
-// The extra bits lie before the Rice data, and are taken in at the end.
+// After the plan. The extra bits lie before the Rice data, and are taken in at the end.
+fn decode_planned(
+    packet: &[u8],
+    s: StreamInfo,
+    extra: Place,
+    channels: u32,
+    bps: u32,
+    shift: u32,
+    n: u32,
+    plan: Plan,
+    scratch: &mut [i32],
+) -> Reached
+    requires { ⌜ Prepared s channels extra bps shift n plan (now scratch) ⌝ }
+    ensures { λ r. ⌜ Sounds (s .«frame_length») n channels (afterPlan (bitsOf (now (packet .entry))) s channels bps shift n (planOf channels plan) (bitOf extra)) (now (scratch .entry)) (now (scratch .exit)) r ⌝ }
+{
+    let half = s.frame_length as usize;
+    let count = n as usize;
+    let passed = skip(packet, extra, shift as u64 * (n as u64 * channels as u64));
+    let Reached::At(rice) = passed else {
+        return Reached::Refused(Refusal::Short, extra);
+    };
+    let done = decode_channels(packet, s, rice, bps, plan, channels, count, scratch);
+    let Reached::At(next) = done else {
+        return done;
+    };
+    finish(
+        packet,
+        extra,
+        scratch,
+        half,
+        count,
+        channels,
+        shift,
+        plan.mix_bits,
+        plan.mix_res,
+    );
+    Reached::At(next)
+}
+
+// 9 and 10 before any further bit.
 fn decode_compressed(
     packet: &[u8],
     s: StreamInfo,
@@ -38,8 +78,6 @@ fn decode_compressed(
     requires { ⌜ Sounding s channels at code n (now scratch) ⌝ }
     ensures { λ r. ⌜ Sounds (s .«frame_length») n channels (compressed (bitsOf (now (packet .entry))) s channels (8 * code) n (bitOf at)) (now (scratch .entry)) (now (scratch .exit)) r ⌝ }
 {
-    let half = s.frame_length as usize;
-    let count = n as usize;
     let shift = 8 * code;
     let bps = s.bit_depth as u32 - shift + channels - 1;
     if bps > 32 {
@@ -54,26 +92,7 @@ fn decode_compressed(
     let Reached::At(extra) = answer else {
         return answer;
     };
-    let passed = skip(packet, extra, shift as u64 * (n as u64 * channels as u64));
-    let Reached::At(rice) = passed else {
-        return Reached::Refused(Refusal::Short, extra);
-    };
-    let done = channels::decode_channels(packet, s, rice, bps, plan, channels, count, scratch);
-    let Reached::At(next) = done else {
-        return done;
-    };
-    finish::finish(
-        packet,
-        extra,
-        scratch,
-        half,
-        count,
-        channels,
-        shift,
-        plan.mix_bits,
-        plan.mix_res,
-    );
-    Reached::At(next)
+    decode_planned(packet, s, extra, channels, bps, shift, n, plan, scratch)
 }
 
 fn decode_uncompressed(
@@ -92,7 +111,7 @@ fn decode_uncompressed(
     if code != 0 {
         return Reached::Refused(Refusal::ShiftedRaw, at);
     }
-    raw::raw_samples(
+    raw_samples(
         packet,
         at,
         s.bit_depth as u32,

@@ -1,5 +1,5 @@
 -- `heard_of` meets its contract, in each arm.
-use Rattle.element.specs.Fills.{heardOf}
+use Rattle.element.specs.Sounds.{heardOf}
 use borrow.Author.Needs.{needs}
 use Rattle.element.proofs.heard_of.Statement.{statement}
 use Rattle.element.proofs.heard_of.Tie as tie

@@ -8,7 +8,7 @@ use Rattle.rules.specs.Bits.{bitOf}
 use Rattle.rules.specs.Element.{header}
 use Rattle.bitcursor.proofs.Laws.{value-of, cut-of, plain-of}
 use Rattle.header.specs.Told.{toldHeader, SaneHeader}
-use Rattle.header.proofs.Steps.{answered-give}
+use Rattle.header.proofs.Laws.{answered-give}
 use Rattle.header.proofs.read_header.Statement.{statement}
 use Rattle.header.proofs.read_header.Tie as tie
 

@@ -7,7 +7,7 @@ use Rattle.rules.specs.Bits.{bitOf, bitsOf}
 use Rattle.rules.specs.Element.{sampleNumber}
 use Rattle.bitcursor.proofs.Laws.{value-of, cut-of, plain-of}
 use Rattle.header.specs.Told.{toldHeader, SaneHeader}
-use Rattle.header.proofs.Steps.{number-partial}
+use Rattle.header.proofs.Laws.{number-partial}
 use Rattle.header.proofs.read_sample_number.Statement.{statement}
 use Rattle.header.proofs.read_sample_number.Tie as tie
 

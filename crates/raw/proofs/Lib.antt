@@ -1,0 +1,2 @@
+-- Laws of uncompressed samples.
+mod Laws
