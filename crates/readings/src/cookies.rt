@@ -8,8 +8,14 @@ use rules::StreamInfo;
 
 pub fn readings(counts: Counts) -> Counts {
     let counts = plain_cookies(counts);
-    let counts = cookies_with_atoms(counts);
-    let counts = getters(counts, stream(4096, 16, 2));
+    let counts = cookies_with_frma(counts);
+    let counts = cookies_with_alac(counts);
+    let counts = fields(counts, stream(4096, 16, 2));
+    let counts = sizes(counts, stream(4096, 16, 2));
+    wrapped_sizes(counts)
+}
+
+fn wrapped_sizes(counts: Counts) -> Counts {
     let counts = samples(
         counts,
         b"samples of 4294967295 frames and 8 channels",
@@ -33,14 +39,17 @@ fn plain_cookies(counts: Counts) -> Counts {
     taken(counts, b"cookie of 25 bytes", &bytes)
 }
 
-fn cookies_with_atoms(counts: Counts) -> Counts {
-    let both =
-        *b"\0\0\0\x0Cfrmaalac\0\0\0\x24alac\0\0\0\0\x01\x02\x03\x04\x05\x06\x07\x08\x09\x0A\x0B\x0C\x0D\x0E\x0F\x10\x11\x12\x13\x14\x15\x16\x17\x18";
+fn cookies_with_frma(counts: Counts) -> Counts {
     let frma =
         *b"\0\0\0\x0Cfrmaalac\x01\x02\x03\x04\x05\x06\x07\x08\x09\x0A\x0B\x0C\x0D\x0E\x0F\x10\x11\x12\x13\x14\x15\x16\x17\x18";
     let counts = refused(counts, b"24 bytes with frma", &frma[..24]);
     let counts = refused(counts, b"frma and 23 more", &frma[..35]);
-    let counts = taken(counts, b"frma and 24 more", &frma);
+    taken(counts, b"frma and 24 more", &frma)
+}
+
+fn cookies_with_alac(counts: Counts) -> Counts {
+    let both =
+        *b"\0\0\0\x0Cfrmaalac\0\0\0\x24alac\0\0\0\0\x01\x02\x03\x04\x05\x06\x07\x08\x09\x0A\x0B\x0C\x0D\x0E\x0F\x10\x11\x12\x13\x14\x15\x16\x17\x18";
     let counts = refused(counts, b"alac and 23 more", &both[12..47]);
     let counts = taken(counts, b"alac and 24 more", &both[12..]);
     let counts = refused(counts, b"both atoms and 11 more", &both[..35]);
@@ -73,23 +82,33 @@ fn fields_are_1_to_24(cookie: &[u8]) -> bool {
     let CookieAnswer::Info(info) = cookie::from_cookie(cookie) else {
         return false;
     };
-    info.frame_length == 0x01020304
-        && info.compatible_version == 0x05
-        && info.bit_depth == 0x06
-        && info.pb == 0x07
-        && info.mb == 0x08
-        && info.kb == 0x09
-        && info.num_channels == 0x0A
-        && info.max_run == 0x0B0C
-        && info.max_frame_bytes == 0x0D0E0F10
-        && info.avg_bit_rate == 0x11121314
-        && info.sample_rate == 0x15161718
+    words_are_right(info) & bytes_are_right(info)
 }
 
-fn getters(counts: Counts, info: StreamInfo) -> Counts {
+fn words_are_right(info: StreamInfo) -> bool {
+    (info.frame_length == 0x01020304)
+        & (info.max_run == 0x0B0C)
+        & (info.max_frame_bytes == 0x0D0E0F10)
+        & (info.avg_bit_rate == 0x11121314)
+        & (info.sample_rate == 0x15161718)
+}
+
+fn bytes_are_right(info: StreamInfo) -> bool {
+    (info.compatible_version == 0x05)
+        & (info.bit_depth == 0x06)
+        & (info.pb == 0x07)
+        & (info.mb == 0x08)
+        & (info.kb == 0x09)
+        & (info.num_channels == 0x0A)
+}
+
+fn fields(counts: Counts, info: StreamInfo) -> Counts {
     let counts = gives(counts, b"sample rate", cookie::sample_rate(info), 44100);
     let counts = gives(counts, b"bit depth", cookie::bit_depth(info) as u32, 16);
-    let counts = gives(counts, b"channels", cookie::channels(info) as u32, 2);
+    gives(counts, b"channels", cookie::channels(info) as u32, 2)
+}
+
+fn sizes(counts: Counts, info: StreamInfo) -> Counts {
     let counts = gives(
         counts,
         b"frames of a packet at most",

@@ -3,6 +3,7 @@ mod bits;
 mod cookies;
 mod packets;
 mod report;
+mod rows;
 mod streams;
 mod writer;
 

@@ -8,8 +8,13 @@ use rules::StreamInfo;
 
 pub fn readings(counts: Counts) -> Counts {
     let counts = frames(counts);
-    let counts = parameters(counts);
+    let counts = quants(counts);
+    let counts = orders(counts);
     let counts = channel_bits(counts);
+    samples(counts)
+}
+
+fn samples(counts: Counts) -> Counts {
     let counts = pair(
         counts,
         b"00 00 02 00 03 FF FF C0",
@@ -55,13 +60,19 @@ fn frames(counts: Counts) -> Counts {
     )
 }
 
-fn parameters(counts: Counts) -> Counts {
+fn quants(counts: Counts) -> Counts {
     let s = stream(1, 16, 1);
     let mut packet = [0u8; 72];
     let counts = gives(counts, b"quant 0", number(&packet, s), 11);
     packet[5] = 0x02;
     packet[7] = 0xE0;
-    let counts = gives(counts, b"quant 1", number(&packet, s), 0);
+    gives(counts, b"quant 1", number(&packet, s), 0)
+}
+
+fn orders(counts: Counts) -> Counts {
+    let s = stream(1, 16, 1);
+    let mut packet = [0u8; 72];
+    packet[5] = 0x02;
     packet[6] = 0x3C;
     packet[67] = 0xE0;
     let counts = gives(counts, b"order 30", number(&packet, s), 0);
@@ -96,7 +107,11 @@ fn pair(counts: Counts, line: &[u8], packet: &[u8], first: i16, second: i16) -> 
     let mut scratch = [7i32; 4];
     let answer = dec::decode_packet_i16(packet, stream(2, 16, 1), &mut out, &mut scratch);
     let counts = gives(counts, line, number_of(answer), 0);
-    holds(counts, b"its samples", out[0] == first && out[1] == second)
+    holds(
+        counts,
+        b"its samples",
+        (out[0] == first) & (out[1] == second),
+    )
 }
 
 fn number(packet: &[u8], s: StreamInfo) -> u32 {

@@ -2,6 +2,7 @@
 use crate::report::Counts;
 use crate::report::gives;
 use crate::report::holds;
+use crate::rows;
 use crate::streams::stream;
 use rules::Answer;
 use rules::ChannelSettings;
@@ -10,22 +11,38 @@ use rules::PackingSettings;
 use rules::StreamInfo;
 
 pub fn readings(counts: Counts) -> Counts {
+    let counts = written(counts);
+    let counts = rows::readings(counts);
+    let counts = second_channel(counts);
+    let counts = judged_passages(counts);
+    let counts = judged_buffers(counts);
+    left_behind(counts)
+}
+
+fn written(counts: Counts) -> Counts {
     let counts = packets(counts);
     let counts = partial_packets(counts);
     let counts = escapes(counts);
     let counts = pairs(counts);
     let counts = predicted(counts);
-    let counts = whole_frame(counts);
-    let counts = streams(counts);
-    let counts = kbs(counts);
-    let counts = factors(counts);
-    let counts = quants_and_orders(counts);
-    let counts = mixes(counts);
-    let counts = second_channel(counts);
-    let counts = passages(counts);
+    whole_frame(counts)
+}
+
+fn judged_passages(counts: Counts) -> Counts {
+    let counts = mono_passages(counts);
+    let counts = short_passages(counts);
+    long_passages(counts)
+}
+
+fn judged_buffers(counts: Counts) -> Counts {
     let counts = scratch_lengths(counts);
     let counts = byte_lengths(counts);
-    let counts = one_cause_before_another(counts);
+    let counts = empty_byte_lengths(counts);
+    let counts = room_before_settings(counts);
+    settings_before_bytes(counts)
+}
+
+fn left_behind(counts: Counts) -> Counts {
     let counts = unchanged(counts);
     cleared(counts)
 }
@@ -138,109 +155,16 @@ fn whole_frame(counts: Counts) -> Counts {
         gave,
         0,
     );
+    frame_is_written(counts, &bytes, &scratch)
+}
+
+fn frame_is_written(counts: Counts, bytes: &[u8], scratch: &[i32; 8193]) -> Counts {
     let packet = b"\0\0\0\0\0\x13\0\xFF\x87\xFF\xF0";
-    let counts = holds(counts, b"its bytes", check::same(&bytes, packet));
+    let counts = holds(counts, b"its bytes", check::same(bytes, packet));
     holds(
         counts,
         b"the last of 8192 places of scratch is zero, the next stays",
-        scratch[8191] == 0 && scratch[8192] == 7,
-    )
-}
-
-// A stream that no reader accepts is 2; one that only the writer does not take is 19.
-fn streams(counts: Counts) -> Counts {
-    let t = plain();
-    let counts = refused(counts, b"writer, frame length 0", stream(0, 16, 1), t, 2);
-    let counts = refused(
-        counts,
-        b"writer, frame length 4097",
-        stream(4097, 16, 1),
-        t,
-        2,
-    );
-    let counts = refused(counts, b"writer, depth 17", stream(2, 17, 1), t, 2);
-    let counts = refused(counts, b"writer, depth 20", stream(2, 20, 1), t, 19);
-    let counts = refused(counts, b"writer, depth 24", stream(2, 24, 1), t, 19);
-    let counts = refused(counts, b"writer, depth 32", stream(2, 32, 1), t, 19);
-    let counts = refused(counts, b"writer, no channel", stream(2, 16, 0), t, 2);
-    let counts = taken(counts, b"writer, two channels", stream(2, 16, 2), t);
-    let counts = refused(counts, b"writer, three channels", stream(2, 16, 3), t, 19);
-    let counts = refused(counts, b"writer, eight channels", stream(2, 16, 8), t, 19);
-    refused(counts, b"writer, nine channels", stream(2, 16, 9), t, 2)
-}
-
-fn kbs(counts: Counts) -> Counts {
-    let t = plain();
-    let counts = refused(counts, b"writer, kb 0", coded(40, 0), t, 2);
-    let counts = refused(counts, b"writer, kb 1", coded(40, 1), t, 19);
-    let counts = refused(counts, b"writer, kb 7", coded(40, 7), t, 19);
-    let counts = taken(counts, b"writer, kb 8", coded(40, 8), t);
-    let counts = taken(counts, b"writer, kb 31", coded(40, 31), t);
-    refused(counts, b"writer, kb 32", coded(40, 32), t, 2)
-}
-
-// f is rounded down: 73 x 7 / 4 is 127 and three quarters.
-fn factors(counts: Counts) -> Counts {
-    let counts = taken(counts, b"writer, f 127", coded(127, 14), plain());
-    let counts = refused(counts, b"writer, f 128", coded(128, 14), plain(), 19);
-    let counts = taken(
-        counts,
-        b"writer, f 127 and three quarters",
-        coded(73, 14),
-        alike(7, 9, 0),
-    );
-    let counts = taken(counts, b"writer, factor 0", coded(40, 14), alike(0, 9, 0));
-    let counts = taken(counts, b"writer, factor 7", coded(40, 14), alike(7, 9, 0));
-    refused(
-        counts,
-        b"writer, factor 8",
-        coded(40, 14),
-        alike(8, 9, 0),
-        19,
-    )
-}
-
-fn quants_and_orders(counts: Counts) -> Counts {
-    let s = stream(2, 16, 1);
-    let counts = refused(counts, b"writer, quant 0", s, alike(4, 0, 0), 19);
-    let counts = taken(counts, b"writer, quant 1", s, alike(4, 1, 0));
-    let counts = taken(counts, b"writer, quant 15", s, alike(4, 15, 0));
-    let counts = refused(counts, b"writer, quant 16", s, alike(4, 16, 0), 19);
-    let counts = taken(counts, b"writer, order 30", s, alike(4, 9, 30));
-    refused(counts, b"writer, order 31", s, alike(4, 9, 31), 19)
-}
-
-// 2^7 is 128, and mix_res goes to 127.
-fn mixes(counts: Counts) -> Counts {
-    let mono = stream(2, 16, 1);
-    let pair = stream(2, 16, 2);
-    let counts = taken(counts, b"writer, a pair, mix 7, 0", pair, mixed(7, 0));
-    let counts = refused(counts, b"writer, a pair, mix 8, 0", pair, mixed(8, 0), 19);
-    let counts = taken(counts, b"writer, a pair, mix 0, 1", pair, mixed(0, 1));
-    let counts = refused(counts, b"writer, a pair, mix 0, 2", pair, mixed(0, 2), 19);
-    let counts = taken(counts, b"writer, a pair, mix 6, 64", pair, mixed(6, 64));
-    let counts = refused(counts, b"writer, a pair, mix 6, 65", pair, mixed(6, 65), 19);
-    let counts = taken(counts, b"writer, a pair, mix 7, 127", pair, mixed(7, 127));
-    let counts = refused(
-        counts,
-        b"writer, a pair, mix 7, 128",
-        pair,
-        mixed(7, 128),
-        19,
-    );
-    let counts = refused(
-        counts,
-        b"writer, one channel, mix 1, 0",
-        mono,
-        mixed(1, 0),
-        19,
-    );
-    refused(
-        counts,
-        b"writer, one channel, mix 0, 1",
-        mono,
-        mixed(0, 1),
-        19,
+        (scratch[8191] == 0) & (scratch[8192] == 7),
     )
 }
 
@@ -268,34 +192,32 @@ fn second_channel(counts: Counts) -> Counts {
 }
 
 // Frame 2 holds two samples of one channel, and four of a pair.
-fn passages(counts: Counts) -> Counts {
-    let mono = stream(2, 16, 1);
-    let pair = stream(2, 16, 2);
-    let counts = of_passage(counts, b"writer, one channel, 1 sample", mono, &[1], 0);
-    let counts = of_passage(counts, b"writer, one channel, 2 samples", mono, &[1, 2], 0);
-    let counts = of_passage(
-        counts,
-        b"writer, one channel, 3 samples",
-        mono,
-        &[1, 2, 3],
-        20,
-    );
-    let counts = of_passage(counts, b"writer, a pair, no samples", pair, &[], 0);
-    let counts = of_passage(counts, b"writer, a pair, 1 sample", pair, &[1], 20);
-    let counts = of_passage(counts, b"writer, a pair, 2 samples", pair, &[1, 2], 0);
-    let counts = of_passage(counts, b"writer, a pair, 3 samples", pair, &[1, 2, 3], 20);
-    let counts = of_passage(counts, b"writer, a pair, 4 samples", pair, &[1, 2, 3, 4], 0);
+fn mono_passages(counts: Counts) -> Counts {
+    let counts = of_passage(counts, b"writer, one channel, 1 sample", 1, &[1], 0);
+    let counts = of_passage(counts, b"writer, one channel, 2 samples", 1, &[1, 2], 0);
+    of_passage(counts, b"writer, one channel, 3 samples", 1, &[1, 2, 3], 20)
+}
+
+fn short_passages(counts: Counts) -> Counts {
+    let counts = of_passage(counts, b"writer, a pair, no samples", 2, &[], 0);
+    let counts = of_passage(counts, b"writer, a pair, 1 sample", 2, &[1], 20);
+    let counts = of_passage(counts, b"writer, a pair, 2 samples", 2, &[1, 2], 0);
+    of_passage(counts, b"writer, a pair, 3 samples", 2, &[1, 2, 3], 20)
+}
+
+fn long_passages(counts: Counts) -> Counts {
+    let counts = of_passage(counts, b"writer, a pair, 4 samples", 2, &[1, 2, 3, 4], 0);
     let counts = of_passage(
         counts,
         b"writer, a pair, 5 samples",
-        pair,
+        2,
         &[1, 2, 3, 4, 5],
         20,
     );
     of_passage(
         counts,
         b"writer, a pair, 6 samples",
-        pair,
+        2,
         &[1, 2, 3, 4, 5, 6],
         20,
     )
@@ -307,57 +229,41 @@ fn scratch_lengths(counts: Counts) -> Counts {
     in_scratch(counts, b"writer, no scratch", &mut [7i32; 0], 3)
 }
 
-// 1, 2 takes nine bytes, no samples twelve.
+// 1, 2 takes nine bytes.
 fn byte_lengths(counts: Counts) -> Counts {
     let counts = in_bytes(counts, b"writer, 9 bytes for 9", &[1, 2], &mut [7u8; 9], 0);
     let counts = in_bytes(counts, b"writer, 8 bytes for 9", &[1, 2], &mut [7u8; 8], 21);
-    let counts = in_bytes(
+    in_bytes(
         counts,
         b"writer, no bytes for 9",
         &[1, 2],
         &mut [7u8; 0],
         21,
-    );
+    )
+}
+
+// No samples take twelve.
+fn empty_byte_lengths(counts: Counts) -> Counts {
     let counts = in_bytes(counts, b"writer, 12 bytes for 12", &[], &mut [7u8; 12], 0);
     in_bytes(counts, b"writer, 11 bytes for 12", &[], &mut [7u8; 11], 21)
 }
 
-// Depth 17 is 2, three places of scratch 3, quant 0 19, a third sample 20.
-fn one_cause_before_another(counts: Counts) -> Counts {
-    let s = stream(2, 16, 1);
-    let quant_0 = alike(4, 0, 0);
-    let mut bytes = [7u8; 24];
-    let mut scratch = [7i32; 4];
-    let counts = gives(
-        counts,
-        b"writer, 2 before 3",
-        number(
-            stream(2, 17, 1),
-            plain(),
-            &[1, 2],
-            &mut bytes,
-            &mut [7i32; 3],
-        ),
-        2,
-    );
-    let counts = gives(
-        counts,
-        b"writer, 3 before 19",
-        number(s, quant_0, &[1, 2], &mut bytes, &mut [7i32; 3]),
-        3,
-    );
-    let counts = gives(
+// Depth 17 is 2, three places of scratch 3, quant 0 19.
+fn room_before_settings(counts: Counts) -> Counts {
+    let counts = in_little_room(counts, b"writer, 2 before 3", 17, plain(), 2);
+    in_little_room(counts, b"writer, 3 before 19", 16, alike(4, 0, 0), 3)
+}
+
+// A third sample is 20.
+fn settings_before_bytes(counts: Counts) -> Counts {
+    let counts = with_a_third(
         counts,
         b"writer, 19 before 20",
-        number(s, quant_0, &[1, 2, 3], &mut bytes, &mut scratch),
+        alike(4, 0, 0),
+        &mut [7u8; 24],
         19,
     );
-    gives(
-        counts,
-        b"writer, 20 before 21",
-        number(s, plain(), &[1, 2, 3], &mut [7u8; 0], &mut scratch),
-        20,
-    )
+    with_a_third(counts, b"writer, 20 before 21", plain(), &mut [7u8; 0], 20)
 }
 
 // 2 and 3 change no buffer. Nine places of scratch are one too few for frame 5.
@@ -403,19 +309,21 @@ fn clears(counts: Counts, line: &[u8], t: PackingSettings, passage: &[i16], want
 
 // Zero in the first 2 x frame places, and no further.
 fn is_clear(scratch: &[i32; 9], frame: u32) -> bool {
-    scratch[0] == left(0, frame)
-        && scratch[1] == left(1, frame)
-        && scratch[2] == left(2, frame)
-        && scratch[3] == left(3, frame)
-        && scratch[4] == left(4, frame)
-        && scratch[5] == left(5, frame)
-        && scratch[6] == left(6, frame)
-        && scratch[7] == left(7, frame)
-        && scratch[8] == left(8, frame)
+    clear_from(scratch, 0, frame) & clear_from(scratch, 3, frame) & clear_from(scratch, 6, frame)
 }
 
-fn left(place: u32, frame: u32) -> i32 {
-    if place / 2 < frame { 0 } else { 7 }
+// Three places, from `first` on.
+fn clear_from(scratch: &[i32; 9], first: usize, frame: u32) -> bool {
+    if first > 6 {
+        return false;
+    }
+    (scratch[first] == left(first, frame))
+        & (scratch[first + 1] == left(first + 1, frame))
+        & (scratch[first + 2] == left(first + 2, frame))
+}
+
+fn left(place: usize, frame: u32) -> i32 {
+    if place / 2 < frame as usize { 0 } else { 7 }
 }
 
 // A packet, byte for byte, with what lies behind it; scratch; and the samples, read back.
@@ -431,15 +339,18 @@ fn writes(
     let mut scratch = [7i32; 9];
     let answer = enc::encode_packet_i16(s, t, passage, &mut bytes, &mut scratch);
     let counts = gives(counts, line, number_of(answer), 0);
-    let count = count_of(answer);
-    let counts = holds(counts, b"its bytes", begins(&bytes, count, wanted));
-    let counts = holds(counts, b"the bytes behind stay", stays(&bytes, count));
+    let counts = packet_is(counts, &bytes, count_of(answer), wanted);
     let counts = holds(
         counts,
         b"scratch is zero, and stays behind",
         is_clear(&scratch, s.frame_length),
     );
     holds(counts, b"its samples", reads_back(&bytes, s, passage))
+}
+
+fn packet_is(counts: Counts, bytes: &[u8], count: usize, wanted: &[u8]) -> Counts {
+    let counts = holds(counts, b"its bytes", begins(bytes, count, wanted));
+    holds(counts, b"the bytes behind stay", stays(bytes, count))
 }
 
 fn begins(bytes: &[u8], count: usize, packet: &[u8]) -> bool {
@@ -460,7 +371,7 @@ fn stays(bytes: &[u8], count: usize) -> bool {
 }
 
 // What the writer takes is read back.
-fn taken(counts: Counts, line: &[u8], s: StreamInfo, t: PackingSettings) -> Counts {
+pub fn taken(counts: Counts, line: &[u8], s: StreamInfo, t: PackingSettings) -> Counts {
     let mut bytes = [7u8; 128];
     let mut scratch = [7i32; 4];
     let gave = number(s, t, &[1, 2], &mut bytes, &mut scratch);
@@ -468,12 +379,45 @@ fn taken(counts: Counts, line: &[u8], s: StreamInfo, t: PackingSettings) -> Coun
     holds(counts, b"its samples", reads_back(&bytes, s, &[1, 2]))
 }
 
-fn refused(counts: Counts, line: &[u8], s: StreamInfo, t: PackingSettings, wanted: u32) -> Counts {
+pub fn refused(
+    counts: Counts,
+    line: &[u8],
+    s: StreamInfo,
+    t: PackingSettings,
+    wanted: u32,
+) -> Counts {
     gives(counts, line, with_room(s, t, &[1, 2]), wanted)
 }
 
-fn of_passage(counts: Counts, line: &[u8], s: StreamInfo, passage: &[i16], wanted: u32) -> Counts {
-    gives(counts, line, with_room(s, plain(), passage), wanted)
+fn of_passage(counts: Counts, line: &[u8], channels: u8, passage: &[i16], wanted: u32) -> Counts {
+    let gave = with_room(stream(2, 16, channels), plain(), passage);
+    gives(counts, line, gave, wanted)
+}
+
+// One place of scratch too few.
+fn in_little_room(
+    counts: Counts,
+    line: &[u8],
+    depth: u8,
+    t: PackingSettings,
+    wanted: u32,
+) -> Counts {
+    let mut bytes = [7u8; 24];
+    let mut scratch = [7i32; 3];
+    let gave = number(stream(2, depth, 1), t, &[1, 2], &mut bytes, &mut scratch);
+    gives(counts, line, gave, wanted)
+}
+
+fn with_a_third(
+    counts: Counts,
+    line: &[u8],
+    t: PackingSettings,
+    bytes: &mut [u8],
+    wanted: u32,
+) -> Counts {
+    let mut scratch = [7i32; 4];
+    let gave = number(stream(2, 16, 1), t, &[1, 2, 3], bytes, &mut scratch);
+    gives(counts, line, gave, wanted)
 }
 
 // Bytes enough, and scratch for frame 2.
@@ -503,11 +447,11 @@ fn reads_back(packet: &[u8], s: StreamInfo, passage: &[i16]) -> bool {
     let Answer::Accepted(count, _) = answer else {
         return false;
     };
-    count == passage.len()
-        && out[0] == sample(passage, 0)
-        && out[1] == sample(passage, 1)
-        && out[2] == sample(passage, 2)
-        && out[3] == sample(passage, 3)
+    (count == passage.len())
+        & (out[0] == sample(passage, 0))
+        & (out[1] == sample(passage, 1))
+        & (out[2] == sample(passage, 2))
+        & (out[3] == sample(passage, 3))
 }
 
 // Seven is what lies behind the passage.
@@ -539,14 +483,6 @@ fn count_of(answer: Packed) -> usize {
     }
 }
 
-// One channel, frame 2, with a pb and a kb of its own.
-fn coded(pb: u8, kb: u8) -> StreamInfo {
-    let mut s = stream(2, 16, 1);
-    s.pb = pb;
-    s.kb = kb;
-    s
-}
-
 fn channel(pb_factor: u32, quant: u32, order: u32) -> ChannelSettings {
     let coefs = [7i16; 30];
     ChannelSettings {
@@ -558,7 +494,7 @@ fn channel(pb_factor: u32, quant: u32, order: u32) -> ChannelSettings {
 }
 
 // Both channels have the same settings.
-fn alike(pb_factor: u32, quant: u32, order: u32) -> PackingSettings {
+pub fn alike(pb_factor: u32, quant: u32, order: u32) -> PackingSettings {
     let c = channel(pb_factor, quant, order);
     PackingSettings {
         mix_bits: 0,
