@@ -1,5 +1,5 @@
 -- What the stream, the reader, the writer and the text of the settings say of lengths.
-use Prim.Native.Nat.{ℕ, _*_, _/_, _≤_, _<_}
+use Prim.Native.Nat.{ℕ, _*_, _/_, _≤_}
 use mathlib.Core.Path.{_≡_, refl, sym, ap, _∙_}
 use mathlib.Core.Bool.{Bool, true, _&&_}
 use mathlib.Core.List.{List, _++_}
@@ -30,7 +30,7 @@ use Rattle.enc.specs.Promise as enc
 use Rattle.round.specs.Refused.{Cause, all-hold, refused-when}
 use Rattle.wire.specs.declared.text.Numbers.{Numbers}
 use Rattle.wire.specs.declared.text.Numbers.the-variants.{Many}
-use Rattle.wire.specs.Text.{Read, whole, wrong, full, numbersOf, answerOf, Tells}
+use Rattle.wire.specs.Text.{Read, whole, wrong, full, numbersOf, Tells}
 use Rattle.walk.specs.Held.{Small, Pairs}
 
 -- ---- counts

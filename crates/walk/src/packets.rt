@@ -1,5 +1,4 @@
 // Packets on standard input and output, each with its length in front of it.
-ghost use mathlib.Core.Path.{_≡_};
 ghost use Prim.Native.Nat.{_<_};
 ghost use lib.ListN.{length};
 ghost use Rattle.walk.specs.Held.{Framed};

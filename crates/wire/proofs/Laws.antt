@@ -6,7 +6,7 @@ use mathlib.Core.List.{List, [], _∷_, _++_, append-nil, append-assoc}
 use native.Mathlib.Numerals.{add-one}
 use native.Mathlib.Omega.{arith}
 use lib.ListN.{length, getD, take, drop, set, length-set, length-append, drop-of-length-le}
-use lib.Seq.{drop-cons, take-suc-set, take-all, take-nil, drop-nil}
+use lib.Seq.{drop-cons, take-suc-set, take-all, take-nil}
 use lib.Dec.{ltb}
 use borrow.Author.Tests.{ltb-true}
 use lib.IntN.{ℤ, pos, _-ℤ_}
@@ -17,7 +17,6 @@ use Rattle.rules.specs.Words.{modZ, signed}
 use Rattle.laws.specs.Words.{mag-minus, modZ-lt}
 use Rattle.wire.specs.Raw.{samplesOf, bytesOf}
 use Rattle.rules.specs.Buffers.{laid}
-use Rattle.rules.specs.Answers.{pick}
 use Rattle.wire.specs.declared.text.Kind.the-variants.{Line}
 use Rattle.wire.specs.declared.text.Mode.{Mode}
 use Rattle.wire.specs.declared.text.Mode.the-variants.{Between}

@@ -1,6 +1,6 @@
 // The writer's settings as text: decimal numbers between blanks, with comments from '#' to the end of a line.
 ghost use mathlib.Core.Path.{_≡_};
-ghost use Rattle.wire.specs.Text.{isBlank, kindOf, mostOf, grownTo, betweenOf, commentOf, signedOf, digitsOf, turnOf, signedBy, valueOf, tookOf, placesOf, Takes, Tells};
+ghost use Rattle.wire.specs.Text.{isBlank, kindOf, mostOf, grownTo, betweenOf, commentOf, signedOf, digitsOf, turnOf, signedBy, valueOf, Takes, Tells};
 use words::low_i16;
 
 // What a byte of the text is.
