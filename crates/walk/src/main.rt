@@ -10,7 +10,8 @@
 //
 // There is no exit status. The last line on standard error is 'walk: N packets, M refused' where all went well, and else
 // 'walk: stopped after N packets: WHY'; what came before that place is written. Packets are counted from 1. A packet that is
-// refused is told with document 01's number, and unpack writes silence of a whole frame in its place.
+// refused is told with document 01's number, and unpack writes silence of a whole frame in its place. Where a reader of the output
+// stops early, the system ends the program without that line, unless SIGPIPE is ignored.
 mod checking;
 mod files;
 mod packets;
