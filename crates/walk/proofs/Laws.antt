@@ -1,12 +1,10 @@
 -- What the stream, the reader, the writer and the text of the settings say of lengths.
 use Prim.Native.Nat.{ℕ, _*_, _/_, _≤_}
 use mathlib.Core.Path.{_≡_, refl, sym, ap, _∙_}
-use mathlib.Core.Bool.{Bool, true, _&&_}
+use mathlib.Core.Bool.{true}
 use mathlib.Core.List.{List, _++_}
 use native.Mathlib.Nat.{mul-left-comm, mul-le-mul, mul-le-mul-right, div-mul-le-self}
 use native.Mathlib.Omega.{arith}
-use borrow.Author.Tests.{leb-true}
-use lib.Dec.{leb}
 use lib.ListN.{length, take, drop, length-append, length-drop}
 use lib.Seq.{length-take-le}
 use lib.IntN.{ℤ}
@@ -21,7 +19,7 @@ use Rattle.rules.specs.declared.Packed.the-variants.{Accepted}
 use Rattle.rules.specs.Bits.{bitsOf}
 use Rattle.rules.specs.Stream.{Width, accepted, outputPlaces}
 use Rattle.laws.specs.Buffers.{laid-length}
-use Rattle.laws.specs.Rice.{and-parts}
+use Rattle.laws.specs.Tests.{AcceptedFields, accepted-fields}
 use Rattle.laws.specs.Shape.{all-got}
 use Rattle.laws.specs.Reader.{packet-shaped}
 use Rattle.dec.specs.Promise as dec
@@ -53,20 +51,9 @@ module _ {A : Type 0} (k : ℕ) (xs : List A) (h : k ≤ length xs) where
 -- ---- the stream
 
 pub small : (w : Width) (s : StreamInfo) → accepted w s ≡ true → Small s
-unfolding accepted
 small w s e =
-    let frame : Bool = leb 1 (s .«frame_length») && leb (s .«frame_length») 4096 in
-    let depth : Bool = frame && w .takes (s .«bit_depth») in
-    let from : Bool = depth && leb 1 (s .«num_channels») in
-    let to : Bool = from && leb (s .«num_channels») 8 in
-    let channels-to = and-parts from (leb (s .«num_channels») 8) (and-parts to (leb 1 (s .kb)) (and-parts (to && leb 1 (s .kb)) (leb (s .kb) 31) e .0) .0) in
-    let channels-from = and-parts depth (leb 1 (s .«num_channels»)) (channels-to .0) in
-    let frame-is = and-parts frame (w .takes (s .«bit_depth»)) (channels-from .0) .0 in
-    record {
-      frame-le = leb-true _ _ (and-parts (leb 1 (s .«frame_length»)) (leb (s .«frame_length») 4096) frame-is .1);
-      channels-le = leb-true _ _ (channels-to .1);
-      channels-ge = leb-true _ _ (channels-from .1);
-    }
+    let f = accepted-fields w s e in
+    record { frame-le = f .frame-le; channels-le = f .channels-le; channels-ge = f .channels-ge }
 
 pub places-le : (s : StreamInfo) → Small s → outputPlaces s ≤ 32768
 places-le s h = mul-le-mul (h .frame-le) (h .channels-le)
