@@ -65,6 +65,7 @@ fn line(sound: &str, passage: &[i16], channels: usize, order: u16) {
 
 pub fn bench() -> bool {
     println!("nanoseconds a sample, packets of {FRAME} samples a channel, best of {ROUNDS} rounds; ratio: ours over the original");
+    println!("ours: the cookie is read and scratch cleared in every call, and both are counted");
     println!("packs: ours, with bytes that cover the limit; fits: with bytes that the packet just fills");
     println!("FFmpeg: with its packet made and its planes interleaved; a dash where libavcodec is not here");
     println!("sound   kind    order      ours  original   ratio    FFmpeg     packs      fits");
