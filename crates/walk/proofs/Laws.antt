@@ -26,9 +26,9 @@ use Rattle.dec.specs.Promise as dec
 use Rattle.dec.proofs.Promises.{accepted-count}
 use Rattle.enc.specs.Promise as enc
 use Rattle.round.specs.Refused.{Cause, all-hold, refused-when}
-use Rattle.wire.specs.declared.text.Numbers.{Numbers}
-use Rattle.wire.specs.declared.text.Numbers.the-variants.{Many}
-use Rattle.wire.specs.Text.{Read, whole, wrong, full, numbersOf, Tells}
+use Rattle.text.specs.declared.Numbers.{Numbers}
+use Rattle.text.specs.declared.Numbers.the-variants.{Many}
+use Rattle.text.specs.Text.{Read, whole, wrong, full, numbersOf, Tells}
 use Rattle.walk.specs.Held.{Small, Pairs}
 
 -- ---- counts

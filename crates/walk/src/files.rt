@@ -4,7 +4,7 @@ use crate::say;
 use rules::CookieAnswer;
 use rules::Refusal;
 use rules::StreamInfo;
-use wire::text::Numbers;
+use text::Numbers;
 
 // How many places were filled, or that a message has said why not.
 pub enum Loaded {
@@ -86,7 +86,7 @@ pub fn load_numbers(numbers: &mut [i16; 68]) -> Loaded
     let Loaded::Filled(n) = loaded else {
         return Loaded::Failed;
     };
-    let found = wire::text::numbers_of(&bytes[..n], numbers);
+    let found = text::numbers_of(&bytes[..n], numbers);
     match found {
         Numbers::Many(count) => Loaded::Filled(count),
         Numbers::Wrong(at) => {

@@ -12,13 +12,12 @@
 // 'walk: stopped after N packets: WHY'; what came before that place is written. Packets are counted from 1. A packet that is
 // refused is told with document 01's number, and unpack writes silence of a whole frame in its place. Where a reader of the output
 // stops early, the system ends the program without that line, unless SIGPIPE is ignored.
-mod checking;
 mod files;
 mod packets;
 mod packing;
+mod reading;
 mod room;
 mod say;
-mod unpacking;
 
 enum Command {
     Pack,
@@ -47,8 +46,8 @@ fn main() {
     let command = command_of(&word[..n], os::arg_count());
     match command {
         Command::Pack => packing::pack(),
-        Command::Unpack => unpacking::unpack(),
-        Command::Check => checking::check(),
+        Command::Unpack => reading::unpack(),
+        Command::Check => reading::check(),
         Command::Unknown => say::usage(),
     }
 }

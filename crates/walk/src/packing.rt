@@ -55,7 +55,7 @@ fn judged(s: StreamInfo, t: PackingSettings) -> bool {
     }
 }
 
-// The turns are counted down, as in unpacking.
+// The turns are counted down, as in reading.
 fn pack_all(s: StreamInfo, t: PackingSettings)
     requires { ⌜ Small s ⌝ }
 {

@@ -8,8 +8,6 @@ ghost use Rattle.wire.specs.Raw.{lengthOf, frontOf, samplesOf, bytesOf};
 use words::bits16_of;
 use words::coef_of;
 
-pub mod text;
-
 fn big_endian(a: u8, b: u8, c: u8, d: u8) -> u32
     ensures { λ r. ⌜ r ≡ lengthOf (a ∷ b ∷ c ∷ d ∷ []) ⌝ }
 {
