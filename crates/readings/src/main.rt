@@ -1,5 +1,6 @@
 // Document 01's readings taken at the bench: each is run and compared with what the paper says.
 mod bits;
+mod causes;
 mod cookies;
 mod packets;
 mod report;
@@ -16,5 +17,6 @@ fn main() {
     let counts = bits::readings(counts);
     let counts = packets::readings(counts);
     let counts = writer::readings(counts);
+    let counts = rows::readings(counts, rows::Kind::Causes, 25);
     report::total(counts);
 }

@@ -114,14 +114,15 @@ fn pair(counts: Counts, line: &[u8], packet: &[u8], first: i16, second: i16) -> 
     )
 }
 
-fn number(packet: &[u8], s: StreamInfo) -> u32 {
-    let mut out = [7i16; 2];
+// Room for four samples.
+pub fn number(packet: &[u8], s: StreamInfo) -> u32 {
+    let mut out = [7i16; 4];
     let mut scratch = [7i32; 4];
     number_of(dec::decode_packet_i16(packet, s, &mut out, &mut scratch))
 }
 
-fn number_wide(packet: &[u8], s: StreamInfo) -> u32 {
-    let mut out = [7i32; 2];
+pub fn number_wide(packet: &[u8], s: StreamInfo) -> u32 {
+    let mut out = [7i32; 4];
     let mut scratch = [7i32; 4];
     number_of(dec::decode_packet_i32(packet, s, &mut out, &mut scratch))
 }

@@ -1,6 +1,7 @@
 // The readings of the writer's ranges: each is a row of standard input. A row has twelve numbers of four digits, a blank after each,
 // then a text, in 128 bytes. The numbers: frame length, depth, channels, pb, kb, mix_bits, mix_res, pb_factor, quant, order, the
 // number that the writer should give, and the length of the text.
+use crate::causes;
 use crate::report::Counts;
 use crate::streams::stream;
 use crate::writer::alike;
@@ -10,36 +11,38 @@ use libc::STDIN_FILENO;
 use rules::PackingSettings;
 use rules::StreamInfo;
 
-const ROWS: u32 = 39;
+// Which rows they are: the writer's, or packets with two causes.
+pub enum Kind {
+    Writer,
+    Causes,
+}
 
-// A stream that no reader accepts is 2; one that only the writer does not take is 19.
-pub fn readings(counts: Counts) -> Counts {
+pub fn readings(counts: Counts, kind: Kind, rows: u32) -> Counts {
     let mut counts = counts;
-    let mut left = ROWS;
+    let mut left = rows;
     while left > 0 {
-        counts = next_row(counts);
+        counts = next_row(counts, kind);
         left -= 1;
     }
     counts
 }
 
-fn next_row(counts: Counts) -> Counts {
+fn next_row(counts: Counts, kind: Kind) -> Counts {
     let mut row = [0u8; 60];
     io::read_full(STDIN_FILENO, &mut row);
     let mut text = [0u8; 68];
     io::read_full(STDIN_FILENO, &mut text);
-    reading(counts, &row, &text)
-}
-
-fn reading(counts: Counts, row: &[u8; 60], text: &[u8]) -> Counts {
-    let length = number_at(row, 11) as usize;
-    if length <= text.len() {
-        judged(counts, row, &text[0..length])
-    } else {
-        counts
+    let length = number_at(&row, 11) as usize;
+    if length > 68 {
+        return counts;
+    }
+    match kind {
+        Kind::Writer => judged(counts, &row, &text[0..length]),
+        Kind::Causes => causes::reading(counts, &row, &text[0..length]),
     }
 }
 
+// A stream that no reader accepts is 2; one that only the writer does not take is 19.
 fn judged(counts: Counts, row: &[u8; 60], line: &[u8]) -> Counts {
     let wanted = number_at(row, 10);
     let s = stream_of(row);
@@ -50,7 +53,7 @@ fn judged(counts: Counts, row: &[u8; 60], line: &[u8]) -> Counts {
     refused(counts, line, s, t, wanted)
 }
 
-fn stream_of(row: &[u8; 60]) -> StreamInfo {
+pub fn stream_of(row: &[u8; 60]) -> StreamInfo {
     let mut s = stream(number_at(row, 0), byte_at(row, 1), byte_at(row, 2));
     s.pb = byte_at(row, 3);
     s.kb = byte_at(row, 4);
@@ -68,7 +71,7 @@ fn byte_at(row: &[u8; 60], column: usize) -> u8 {
     (number_at(row, column) % 256) as u8
 }
 
-fn number_at(row: &[u8; 60], column: usize) -> u32 {
+pub fn number_at(row: &[u8; 60], column: usize) -> u32 {
     if column > 11 {
         return 0;
     }

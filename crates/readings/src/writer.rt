@@ -3,6 +3,7 @@ use crate::report::Counts;
 use crate::report::gives;
 use crate::report::holds;
 use crate::rows;
+use crate::rows::Kind;
 use crate::streams::stream;
 use rules::Answer;
 use rules::ChannelSettings;
@@ -12,7 +13,7 @@ use rules::StreamInfo;
 
 pub fn readings(counts: Counts) -> Counts {
     let counts = written(counts);
-    let counts = rows::readings(counts);
+    let counts = rows::readings(counts, Kind::Writer, 39);
     let counts = second_channel(counts);
     let counts = judged_passages(counts);
     let counts = judged_buffers(counts);

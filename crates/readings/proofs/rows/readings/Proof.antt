@@ -4,10 +4,10 @@ use Rattle.readings.proofs.rows.readings.Statement.{statement}
 use Rattle.readings.proofs.rows.readings.Tie as tie
 
 abbrev Inv-loop : tie.InvT-loop
-Inv-loop counts₀ left₀ counts left = Unit {0}
+Inv-loop counts₀ kind₀ rows₀ left₀ counts left = Unit {0}
 
 abbrev μ-loop : tie.MeasureT-loop
-μ-loop counts₀ left₀ counts left = left
+μ-loop counts₀ kind₀ rows₀ left₀ counts left = left
 
 loop-holds : tie.Need-loop-holds Inv-loop μ-loop
 loop-holds c = tt
