@@ -6,42 +6,23 @@ use bitcursor::Reached;
 use rules::Place;
 
 pub fn readings(counts: Counts) -> Counts {
-    let counts = long_reads(counts);
-    let counts = last_reads(counts);
-    edges(counts)
-}
-
-fn long_reads(counts: Counts) -> Counts {
-    let bytes = bench_bytes();
+    let bytes = *b"\0\0\0\x01\x80\0\0\0";
     let counts = gives(
         counts,
         b"32 bits of 00 00 00 01 80 00 00 00",
         value(&bytes, 0, 32),
         1,
     );
-    gives(counts, b"32 bits one bit on", value(&bytes, 1, 32), 3)
-}
-
-fn last_reads(counts: Counts) -> Counts {
-    let bytes = bench_bytes();
+    let counts = gives(counts, b"32 bits one bit on", value(&bytes, 1, 32), 3);
     let counts = gives(counts, b"33 bits in, 31 bits", value(&bytes, 33, 31), 0);
-    gives(
+    let counts = gives(
         counts,
         b"33 bits in, 32 bits are too many",
         value(&bytes, 33, 32),
         4294967295,
-    )
-}
-
-fn edges(counts: Counts) -> Counts {
-    let bytes = bench_bytes();
+    );
     let counts = gives(counts, b"the edge after 9 bits", edge(&bytes, 9), 16);
     gives(counts, b"the edge after 16 bits", edge(&bytes, 16), 16)
-}
-
-// Document 01's eight bytes.
-fn bench_bytes() -> [u8; 8] {
-    *b"\0\0\0\x01\x80\0\0\0"
 }
 
 fn place(bit: usize) -> Place {
