@@ -1,8 +1,7 @@
 // Rice symbols, and the residuals of a channel that they carry.
 ghost use Prim.Native.Nat.{_<_};
 ghost use mathlib.Core.Path.{_≡_};
-ghost use lib.IntN.{pos};
-ghost use lib.ListN.{length, replicate};
+ghost use lib.ListN.{length};
 ghost use Rattle.rules.specs.Bits.{bitOf, bitsOf};
 ghost use Rattle.rules.specs.Symbol.{ones, symbol};
 ghost use Rattle.rules.specs.Rice.{symbolK, symbolM, runK, historyAfter, afterValue, sample, rice};
@@ -13,6 +12,7 @@ use bitcursor::Got;
 use bitcursor::Reached;
 use bitcursor::read;
 use bitcursor::read_bit;
+use buffers::clear_i32;
 use rules::Place;
 use rules::Refusal;
 use words::unfold;
@@ -239,23 +239,14 @@ fn read_samples(packet: &[u8], start: Place, c: Coding, mb: u8, buf: &mut [i32])
     Reached::At(at)
 }
 
-fn clear(buf: &mut [i32])
-    ensures { λ _. ⌜ now (buf .exit) ≡ replicate (length (now (buf .entry))) (pos 0) ⌝ }
-{
-    let mut i = 0;
-    while i < buf.len() {
-        buf[i] = 0;
-        i += 1;
-    }
-}
-
 pub fn rice_decompress(packet: &[u8], start: Place, c: Coding, mb: u8, buf: &mut [i32]) -> Reached
     requires { ⌜ Coded c ⌝ }
     ensures { λ r. ⌜ Decompressed (rice (symbol (bitsOf (now (packet .entry)))) (c .factor) (c .kb) (c .bits) (length (now (buf .entry))) 0 mb 0 (bitOf start)) (now (buf .entry)) (now (buf .exit)) r ⌝ }
 {
     let reached = read_samples(packet, start, c, mb, buf);
     if let Reached::Refused(_, _) = reached {
-        clear(buf);
+        let places = buf.len();
+        clear_i32(buf, places);
     }
     reached
 }

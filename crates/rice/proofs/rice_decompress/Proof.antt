@@ -1,8 +1,4 @@
 -- `rice_decompress` meets its contract: the buffer is whole or it is cleared.
-use Prim.Native.Nat.{ℕ}
-use mathlib.Core.Path.{ap, _∙_}
-use lib.IntN.{pos}
-use lib.ListN.{replicate}
 use Rattle.rice.proofs.Laws.{met-whole, met-refused}
 use borrow.Author.Needs.{needs}
 use Rattle.rice.proofs.rice_decompress.Statement.{statement}
@@ -14,8 +10,8 @@ read-samples-requires c κs = search needs
 enum-told : tie.Need-enum-told
 enum-told c = search needs
 
-clear-requires : tie.Need-clear-requires
-clear-requires c κs = search needs
+clear-i32-requires : tie.Need-clear-i32-requires
+clear-i32-requires c κs = search needs
 
 enum-told-2 : tie.Need-enum-told-2
 enum-told-2 c = search needs
@@ -27,7 +23,7 @@ returns : tie.Need-returns
 returns c =
     let d = c .before .before .before .before .before .before in
     met-refused (d .read-samples .ensures) (c .before .before .before .enum-told .given .1)
-    (c .before .clear .ensures ∙ ap (λ (n : ℕ). replicate n (pos 0)) (d .read-samples .kept .1 .1 .1 .1 .0))
+    (d .read-samples .kept .1 .1 .1 .1 .0) (c .before .clear-i32 .ensures)
 
 same-length-2 : tie.Need-same-length-2
 same-length-2 c = search needs
@@ -41,7 +37,7 @@ rice-decompress-spec =
     (tie.spec
     read-samples-requires
     enum-told
-    clear-requires
+    clear-i32-requires
     enum-told-2
     same-length
     returns
