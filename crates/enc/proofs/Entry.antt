@@ -19,7 +19,7 @@ use Rattle.rules.specs.Buffers.{laid, cleared}
 use Rattle.rules.specs.Writer.{inRange, passageFits, packetBytes, packed, bytesAfter, packScratchAfter}
 use Rattle.enc.specs.Promise.{Promise}
 use Rattle.enc.specs.Emitted.{Packing}
-use Rattle.enc.proofs.Packs.{cleared-again}
+use Rattle.laws.specs.Reader.{cleared-cleared}
 
 module _ (s : StreamInfo) (t : PackingSettings) (passage : List ℤ) (bytes : List ℕ) (scr : List ℤ) where
   pub unaccepted : accepted i32Output s ≡ false → Promise s t passage bytes bytes scr scr (Refused Stream)
@@ -52,7 +52,7 @@ module _ (s : StreamInfo) (t : PackingSettings) (passage : List ℤ) (bytes : Li
         packs f {bytes′} p = record {
           answer = rw (a, roomy, r, f) (p .answer);
           output = rw (a, roomy, r, f) (by (leb (length (packetBytes s t passage)) (length bytes)) (p .bytes));
-          room = rw (a, roomy) (p .left ∙ rw z (cleared-again (scratchPlaces s) scr h));
+          room = rw (a, roomy) (p .left ∙ rw z (cleared-cleared (pos 0) (scratchPlaces s) scr h));
         }
           where
             kept : Packed → List ℕ

@@ -6,10 +6,12 @@ use native.Mathlib.Omega.{arith}
 use native.Mathlib.Nat.{le-trans}
 use borrow.Author.Tests.{le-leb, lt-leb}
 use lib.ListN.{length}
+use lib.IntN.{pos}
 use Rattle.rules.specs.Writer.{packetBytes}
 use Rattle.laws.specs.Writer.{told, packet-bytes-limit}
 use Rattle.laws.specs.Buffers.{laid-length}
-use Rattle.enc.proofs.Packs.{cleared-again, measured}
+use Rattle.laws.specs.Reader.{cleared-cleared}
+use Rattle.enc.proofs.Packs.{measured}
 use Rattle.enc.proofs.pack.Statement.{statement}
 use Rattle.enc.proofs.pack.Tie as tie
 
@@ -89,7 +91,7 @@ returns-3 c =
     record {
       answer = rw (le-leb (length w) (length (a .bytes .now)) fits, d .count);
       bytes = rw (le-leb (length w) (length (a .bytes .now)) fits) (d .bytes ∙ rw same);
-      left = d .left ∙ rw (e .left) (cleared-again _ (a .scratch .now) (c .before .before .before .before .before .before .before .before .before .before .before .before .before .before .before .before .before .pre .places));
+      left = d .left ∙ rw (e .left) (cleared-cleared (pos 0) _ (a .scratch .now) (c .before .before .before .before .before .before .before .before .before .before .before .before .before .before .before .before .before .pre .places));
     }
 
 pub pack-spec : {M : Type 1} → statement M

@@ -5,6 +5,7 @@ use mathlib.Core.Path.{_≡_, _∙_}
 use mathlib.Core.List.{append-nil}
 use native.Mathlib.Omega.{arith}
 use lib.ListN.{length}
+use lib.IntN.{pos}
 use Rattle.rules.specs.Buffers.{cleared}
 use Rattle.rules.specs.Writer.{writtenBits}
 use Rattle.laws.specs.Writer.{channel-length, written-bits, samplesOf}
@@ -12,7 +13,7 @@ use Rattle.laws.specs.Buffers.{laid-length}
 use Rattle.sink.proofs.Laws.{sent-sent, sent-ready}
 use Rattle.lane.specs.Lane.{laneOf}
 use Rattle.lane.proofs.Steps.{lane-length}
-use Rattle.enc.proofs.Packs.{cleared-again}
+use Rattle.laws.specs.Reader.{cleared-cleared}
 use Rattle.enc.proofs.Parts.{first-told, second-told, codes-one, codes-two}
 use Rattle.enc.proofs.put_channels.Statement.{statement}
 use Rattle.enc.proofs.put_channels.Tie as tie
@@ -67,7 +68,7 @@ returns-2 c =
     let two : a .s .«num_channels» ≡ 2 = omega (arith, c .before .before .before .before .before .before .if1 .left, f .channels-ge, f .channels-le) in
     record {
       sent = rw (codes-two (a .s) (a .t) (a .passage .now) two, append-nil) (sent-sent _ _ (c .before .before .before .before .before .before .before .before .before .before .before .put-channel .ensures .sent) (c .before .before .before .put-channel2 .ensures .sent));
-      left = c .before .before .before .put-channel2 .ensures .left ∙ (rw (c .before .before .before .before .before .before .before .before .before .before .before .put-channel .ensures .left) (cleared-again _ (a .scratch .now) (p .places)));
+      left = c .before .before .before .put-channel2 .ensures .left ∙ (rw (c .before .before .before .before .before .before .before .before .before .before .before .put-channel .ensures .left) (cleared-cleared (pos 0) _ (a .scratch .now) (p .places)));
     }
 
 pub put-channels-spec : {M : Type 1} → statement M
