@@ -83,7 +83,7 @@ impl Encoder {
 
     /// The most bytes that a packet of `samples` samples, all channels together, can have.
     ///
-    /// It is the sum of `byte_limit` in crates/ranges, of which it is proved that no packet has more. More
+    /// It is the sum of `byte_limit` in crates/enc, of which it is proved that no packet has more. More
     /// than a frame counts as a frame, as it is never packed.
     pub fn max_packet_bytes(&self, samples: usize) -> usize {
         let channels = usize::from(self.config.channels().max(1));

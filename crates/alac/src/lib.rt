@@ -4,7 +4,6 @@ ghost use mathlib.Core.List.{[], _∷_};
 ghost use Rattle.rules.specs.Refusals.{readNumber, readCount, packedNumber, packedCount};
 ghost use Rattle.rules.specs.Stream.{i16Output, i32Output};
 ghost use Rattle.alac.specs.Boundary.{Told, Handed, Worded, Written, fieldsOf};
-use cookie::from_cookie;
 use dec::decode_packet_i16;
 use dec::decode_packet_i32;
 use enc::encode_packet_i16;
@@ -14,6 +13,7 @@ use rules::Packed;
 use rules::StreamInfo;
 use rules::number_of;
 use settings::settings_of;
+use stream::from_cookie;
 
 // The fields in StreamInfo's order.
 fn fields_of(s: StreamInfo) -> [u64; 11]

@@ -23,8 +23,8 @@ use Rattle.laws.specs.Packet.{turn-grows}
 use Rattle.laws.specs.Shape.{all-got}
 use Rattle.laws.specs.Reader.{cleared-cleared, every-append, Fits, turn-fits, packet-shaped, kept, written-stored}
 use Rattle.mix.proofs.Halves.{with-length, with-rest}
-use Rattle.turn.specs.declared.State.{State}
-use Rattle.turn.specs.Told.{scratchTurned}
+use Rattle.dec_packet.specs.declared.State.{State}
+use Rattle.dec_packet.specs.Told.{scratchTurned}
 use Rattle.dec.specs.declared.Step.{Step}
 use Rattle.dec.specs.declared.Step.the-variants.{More, Done}
 use Rattle.dec.specs.Told.{Readable, stepAfter, outputTurned, Steppable, Steps, Finished}

@@ -18,9 +18,9 @@ use Rattle.rules.specs.Element.{Sound}
 use Rattle.rules.specs.Packet.{Turn, audio, passed, end, packet}
 use Rattle.rules.specs.Reader.{roomy, answerOf, written}
 use Rattle.laws.specs.Stored.{stored}
-use Rattle.turn.specs.declared.State.{State}
-use Rattle.turn.specs.declared.Element.{Element}
-use Rattle.turn.specs.Told.{toldElement, scratchTurned}
+use Rattle.dec_packet.specs.declared.State.{State}
+use Rattle.dec_packet.specs.declared.Element.{Element}
+use Rattle.dec_packet.specs.Told.{toldElement, scratchTurned}
 use Rattle.dec.specs.declared.Judged.{Judged}
 use Rattle.dec.specs.declared.Judged.the-variants.{Fit, Unfit}
 use Rattle.dec.specs.declared.Step.{Step}

@@ -11,13 +11,16 @@ ghost use Rattle.rules.specs.Packet.{turn};
 ghost use Rattle.rules.specs.Reader as reader;
 ghost use Rattle.laws.specs.Stored.{stored};
 ghost use Rattle.mix.specs.Halves.{parts};
-ghost use Rattle.turn.specs.Told.{Sane};
+ghost use Rattle.dec_packet.specs.Told.{Sane};
 ghost use Rattle.dec.specs.Promise.{Promise};
 ghost use Rattle.dec.specs.Told.{Judges, Readable, Layable, Follows, Steppable, Steps, Finished};
 use buffers::clear_i16;
 use buffers::clear_i32;
 use buffers::store_i16;
 use buffers::store_i32;
+use dec_packet::Element;
+use dec_packet::State;
+use dec_packet::next_element;
 use rules::Answer;
 use rules::Place;
 use rules::Refusal;
@@ -26,9 +29,6 @@ use rules::StreamInfo;
 use stream::accepted;
 use stream::takes_i16;
 use stream::takes_i32;
-use turn::Element;
-use turn::State;
-use turn::next_element;
 
 // The reader after an element: at the next one, or at the packet's answer.
 pub enum Step {

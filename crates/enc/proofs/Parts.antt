@@ -14,10 +14,10 @@ use Rattle.rules.specs.Writer.{settingsUsed, writtenBits, joined, paramBits, he
 use Rattle.laws.specs.Bits.{length-digits}
 use Rattle.laws.specs.Words.{Every, none, one}
 use Rattle.laws.specs.Writer.{ChannelTold, Told, Writable, told, samplesOf, mixedLanes, mixed-lanes-count, packet-limit}
-use Rattle.sink.specs.declared.Sink.{Sink}
-use Rattle.sink.specs.Sent.{Sent, start}
-use Rattle.sink.proofs.Laws.{sent-sent, sent-padded}
-use Rattle.lane.specs.Lane.{laneOf}
+use Rattle.enc_bits.specs.declared.Sink.{Sink}
+use Rattle.enc_bits.specs.Sent.{Sent, start}
+use Rattle.enc_bits.proofs.Laws.{sent-sent, sent-padded}
+use Rattle.enc_channel.specs.Lane.{laneOf}
 
 -- ---- the channels that there are
 

@@ -16,8 +16,8 @@ use Rattle.rules.specs.Buffers.{laid, cleared}
 use Rattle.rules.specs.Writer.{settingsUsed, joined, channelCodes, packetBytes}
 use Rattle.laws.specs.Words.{Every}
 use Rattle.laws.specs.Writer.{ChannelTold, Told, Writable}
-use Rattle.sink.specs.declared.Sink.{Sink}
-use Rattle.sink.specs.Sent.{Ready, Sent}
+use Rattle.enc_bits.specs.declared.Sink.{Sink}
+use Rattle.enc_bits.specs.Sent.{Ready, Sent}
 
 -- one channel or two, with settings that the writer takes
 pub record Paramable (s : StreamInfo) (t : PackingSettings) (out : Sink) : Type 0 where

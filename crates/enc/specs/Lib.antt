@@ -1,2 +1,3 @@
+pub mod Fits
 pub mod Promise
 pub mod Emitted

@@ -1,3 +1,5 @@
--- Laws of channels in scratch, for the proofs of this crate and of those above it.
 pub mod Halves
 pub mod Turns
+pub mod Finished
+pub mod BlendTurns
+pub mod Lanes

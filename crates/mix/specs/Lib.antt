@@ -1,3 +1,5 @@
 pub mod Halves
 pub mod Fills
 pub mod Contracts
+pub mod Finish
+pub mod Mixable

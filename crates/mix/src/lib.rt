@@ -1,22 +1,29 @@
-// Unmixing and extra bits, in place: a channel's samples lie in scratch from place 0 on, a second channel's from `half` on.
+// Mixing, both ways: the reader's unmixing and extra bits, and the writer's mix.
 ghost use mathlib.Core.Path.{_≡_};
 ghost use Prim.Native.Nat.{_*_, _<_};
-ghost use lib.ListN.{drop};
+ghost use lib.ListN.{drop, length, getD};
+ghost use mathlib.Core.List.{[]};
 ghost use Rattle.rules.specs.Bits.{bitOf, bitsOf};
-ghost use Rattle.rules.specs.Buffers.{lanes, pairs};
-ghost use Rattle.rules.specs.Mix.{rightOf, leftOf, onPair};
-ghost use Rattle.rules.specs.Element.{numbers, extended};
+ghost use Rattle.rules.specs.Buffers.{lanes, pairs, lane};
+ghost use Rattle.rules.specs.Mix.{rightOf, leftOf, onPair, unmixed, midOf, mixed};
+ghost use Rattle.rules.specs.Element.{numbers, extended, withExtra};
+ghost use Rattle.rules.specs.Words.{signed, sub32};
 ghost use Rattle.mix.specs.Halves.{parts, withParts};
 ghost use Rattle.mix.specs.Contracts.{Unmixable, Appendable, Takes, Took};
+ghost use Rattle.mix.specs.Finish.{UnmixAsked, Extendable, Finishable};
+ghost use Rattle.mix.specs.Mixable.{Mixable, mixedSample};
 use bitcursor::Got;
 use bitcursor::read;
 use rules::Place;
 use words::number_of;
 use words::shift_down;
 use words::shift_up;
+use words::sign_extend;
 use words::wrapping_add_i32;
 use words::wrapping_mul_i32;
 use words::wrapping_sub_i32;
+
+// ---- Unmixing and extra bits, in place: a channel's samples lie in scratch from place 0 on, a second channel's from `half` on.
 
 fn right_of(u: i32, v: i32, mix_bits: u32, mix_res: i32) -> i32
     requires { ⌜ «mix_bits» < 32 ⌝ }
@@ -93,4 +100,126 @@ pub fn append_extra_bits(
         }
         i += 1;
     }
+}
+
+// ---- The last step of a compressed element, once its samples are predicted: unmixing, then extra bits.
+
+// A pair whose mix_res is not 0 is unmixed; anything else is as it is.
+pub fn unmix(scratch: &mut [i32], half: usize, n: usize, channels: u32, mix_bits: u32, mix_res: u32)
+    requires { ⌜ UnmixAsked half n channels «mix_bits» «mix_res» (now scratch) ⌝ }
+    ensures { λ _. ⌜ now (scratch .exit) ≡ withParts half (unmixed «mix_bits» (signed 8 «mix_res») (parts half n channels (now (scratch .entry)))) (now (scratch .entry)) ⌝ }
+{
+    if channels == 1 {
+        return;
+    }
+    if mix_res == 0 {
+        return;
+    }
+    let res = sign_extend(mix_res as i32, 8);
+    unmix_stereo(scratch, half, n, mix_bits, res);
+}
+
+// Each sample is shifted left and takes its extra bits, where there are any.
+pub fn extend_all(
+    packet: &[u8],
+    extra: Place,
+    scratch: &mut [i32],
+    half: usize,
+    n: usize,
+    channels: u32,
+    shift: u32,
+)
+    requires { ⌜ Extendable (bitsOf (now packet)) (bitOf extra) half n channels shift (now scratch) ⌝ }
+    ensures { λ _. ⌜ now (scratch .exit) ≡ withParts half (withExtra channels shift (numbers (n * channels) shift (drop (bitOf extra) (bitsOf (now (packet .entry))))) (parts half n channels (now (scratch .entry)))) (now (scratch .entry)) ⌝ }
+{
+    if shift == 0 {
+        return;
+    }
+    append_extra_bits(packet, extra, scratch, half, n, channels as usize, shift);
+}
+
+// Both, one after the other.
+pub fn finish(
+    packet: &[u8],
+    extra: Place,
+    scratch: &mut [i32],
+    half: usize,
+    n: usize,
+    channels: u32,
+    shift: u32,
+    mix_bits: u32,
+    mix_res: u32,
+)
+    requires { ⌜ Finishable (bitsOf (now packet)) (bitOf extra) half n channels shift «mix_bits» «mix_res» (now scratch) ⌝ }
+    ensures { λ _. ⌜ now (scratch .exit) ≡ withParts half (withExtra channels shift (numbers (n * channels) shift (drop (bitOf extra) (bitsOf (now (packet .entry))))) (unmixed «mix_bits» (signed 8 «mix_res») (parts half n channels (now (scratch .entry))))) (now (scratch .entry)) ⌝ }
+{
+    unmix(scratch, half, n, channels, mix_bits, mix_res);
+    extend_all(packet, extra, scratch, half, n, channels, shift);
+}
+
+// ---- The writer's mix: one channel of a passage at a time.
+
+fn mid_of(l: i32, r: i32, mix_bits: u32, mix_res: i32) -> i32
+    requires { ⌜ «mix_bits» < 32 ⌝ }
+    ensures { λ u. ⌜ u ≡ midOf «mix_bits» «mix_res» l r ⌝ }
+{
+    let side = wrapping_sub_i32(l, r);
+    let product = wrapping_mul_i32(side, mix_res);
+    let share = shift_down(product, mix_bits);
+    wrapping_add_i32(r, share)
+}
+
+// u for channel 0, v for channel 1.
+fn mix_pair(l: i32, r: i32, which: usize, mix_bits: u32, mix_res: i32) -> i32
+    requires { ⌜ «mix_bits» < 32 ⌝ }
+    ensures { λ x. ⌜ x ≡ mixedSample «mix_bits» «mix_res» which l r ⌝ }
+{
+    if which == 0 {
+        return mid_of(l, r, mix_bits, mix_res);
+    }
+    wrapping_sub_i32(l, r)
+}
+
+// Channel `which` of the passage, as it is.
+fn copy_lane(passage: &[i16], channels: usize, which: usize, out: &mut [i32])
+    requires { ⌜ which < channels ⌝ }
+    requires { ⌜ length (now passage) ≡ length (now out) * channels ⌝ }
+    ensures { λ _. ⌜ now (out .exit) ≡ lane channels (now (passage .entry)) which ⌝ }
+{
+    for i in 0..out.len() {
+        let sample = passage[i * channels + which] as i32;
+        out[i] = sample;
+    }
+}
+
+// Channel `which` of the mixed pair.
+fn mix_pairs(passage: &[i16], which: usize, mix_bits: u32, mix_res: i32, out: &mut [i32])
+    requires { ⌜ Mixable 2 which «mix_bits» (length (now out)) (now passage) ⌝ }
+    ensures { λ _. ⌜ now (out .exit) ≡ getD (onPair (midOf «mix_bits» «mix_res») sub32 (lanes 2 (now (passage .entry)))) which [] ⌝ }
+{
+    for i in 0..out.len() {
+        let l = passage[i * 2] as i32;
+        let r = passage[i * 2 + 1] as i32;
+        let sample = mix_pair(l, r, which, mix_bits, mix_res);
+        out[i] = sample;
+    }
+}
+
+// Channel `which` of the passage, mixed.
+pub fn mix_lane(
+    passage: &[i16],
+    channels: usize,
+    which: usize,
+    mix_bits: u32,
+    mix_res: i32,
+    out: &mut [i32],
+)
+    requires { ⌜ Mixable channels which «mix_bits» (length (now out)) (now passage) ⌝ }
+    ensures { λ _. ⌜ now (out .exit) ≡ getD (mixed «mix_bits» «mix_res» (lanes channels (now (passage .entry)))) which [] ⌝ }
+{
+    if channels == 1 || mix_res == 0 {
+        copy_lane(passage, channels, which, out);
+        return;
+    }
+    mix_pairs(passage, which, mix_bits, mix_res, out);
 }

@@ -8,7 +8,7 @@ use rules::CookieAnswer;
 use rules::StreamInfo;
 
 pub fn reading(counts: Counts, row: &[u8], cookie: &[u8]) -> Counts {
-    match cookie::from_cookie(cookie) {
+    match stream::from_cookie(cookie) {
         CookieAnswer::Info(info) => {
             let counts = row::gives(counts, row, 0);
             holds(
@@ -38,9 +38,9 @@ fn are_1_to_24(info: StreamInfo) -> bool {
 
 pub fn fields(counts: Counts) -> Counts {
     let info = stream(4096, 16, 2);
-    let counts = gives(counts, b"sample rate", cookie::sample_rate(info), 44100);
-    let counts = gives(counts, b"bit depth", cookie::bit_depth(info) as u32, 16);
-    gives(counts, b"channels", cookie::channels(info) as u32, 2)
+    let counts = gives(counts, b"sample rate", stream::sample_rate(info), 44100);
+    let counts = gives(counts, b"bit depth", stream::bit_depth(info) as u32, 16);
+    gives(counts, b"channels", stream::channels(info) as u32, 2)
 }
 
 // The number of samples wraps at 32 bits.
@@ -48,25 +48,25 @@ pub fn sizes(counts: Counts) -> Counts {
     let counts = gives(
         counts,
         b"frames of a packet at most",
-        cookie::max_frames_per_packet(stream(4096, 16, 2)),
+        stream::max_frames_per_packet(stream(4096, 16, 2)),
         4096,
     );
     let counts = gives(
         counts,
         b"samples of a packet at most",
-        cookie::max_samples_per_packet(stream(4096, 16, 2)),
+        stream::max_samples_per_packet(stream(4096, 16, 2)),
         8192,
     );
     let counts = gives(
         counts,
         b"samples of 4294967295 frames and 8 channels",
-        cookie::max_samples_per_packet(stream(4294967295, 16, 8)),
+        stream::max_samples_per_packet(stream(4294967295, 16, 8)),
         4294967288,
     );
     gives(
         counts,
         b"samples of 536870912 frames and 8 channels",
-        cookie::max_samples_per_packet(stream(536870912, 16, 8)),
+        stream::max_samples_per_packet(stream(536870912, 16, 8)),
         0,
     )
 }

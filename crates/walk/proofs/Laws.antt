@@ -25,7 +25,7 @@ use Rattle.laws.specs.Reader.{packet-shaped}
 use Rattle.dec.specs.Promise as dec
 use Rattle.dec.proofs.Promises.{accepted-count}
 use Rattle.enc.specs.Promise as enc
-use Rattle.round.specs.Refused.{Cause, all-hold, refused-when}
+use Rattle.theorems.specs.Refused.{Cause, all-hold, refused-when}
 use Rattle.text.specs.declared.Numbers.{Numbers}
 use Rattle.text.specs.declared.Numbers.the-variants.{Many}
 use Rattle.text.specs.Text.{Read, whole, wrong, full, numbersOf, Tells}

@@ -64,7 +64,7 @@ pub fn open_stream() -> Opened {
     let Loaded::Filled(n) = loaded else {
         return Opened::Failed;
     };
-    let answer = cookie::from_cookie(&bytes[..n]);
+    let answer = stream::from_cookie(&bytes[..n]);
     match answer {
         CookieAnswer::Info(s) => Opened::Stream(s),
         CookieAnswer::Refused(refusal) => {

@@ -6,7 +6,7 @@ use Rattle.alac.proofs.alac_stream_info.Tie as tie
 use Rattle.alac.proofs.alac_stream_info.Reads as reads
 use Rattle.alac.proofs.alac_stream_info.Lts as lts
 use Rattle.alac.proofs.fields_of.Reads as fields-of-reads
-use Rattle.cookie.proofs.from_cookie.Reads as from-cookie-reads
+use Rattle.stream.proofs.from_cookie.Reads as from-cookie-reads
 use Rattle.rules.proofs.number_of.Reads as number-of-reads
 
 from-cookie-requires : tie.Need-from-cookie-requires

@@ -1,7 +1,7 @@
 -- `next_step` meets its contract: each answer of an element leads on, or ends the packet.
 use native.Mathlib.Omega.{arith}
 use borrow.Author.Needs.{needs}
-use Rattle.turn.specs.Told.{Sane}
+use Rattle.dec_packet.specs.Told.{Sane}
 use Rattle.laws.specs.Words.{product-lt}
 use Rattle.dec.proofs.Steps.{follows-audio, follows-passed, follows-end, follows-refused}
 use Rattle.dec.proofs.next_step.Statement.{statement}

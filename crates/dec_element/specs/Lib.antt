@@ -1,0 +1,3 @@
+pub mod Raw
+pub mod Heard
+pub mod Sounds

@@ -1,2 +1,0 @@
--- What this crate requires.
-pub mod Around

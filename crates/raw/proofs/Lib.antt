@@ -1,2 +1,0 @@
--- Laws of uncompressed samples.
-mod Laws

@@ -1,2 +1,0 @@
--- What this crate requires and promises.
-pub mod Sent
