@@ -7,8 +7,7 @@ use native.Mathlib.Numerals.{add-one}
 use native.Mathlib.Omega.{arith}
 use lib.ListN.{length, getD, drop, set, length-set, drop-of-length-le}
 use lib.Seq.{drop-cons, take-nil}
-use Rattle.rules.specs.Buffers.{laid, cleared}
-use Rattle.laws.specs.Stored.{placed}
+use Rattle.rules.specs.Buffers.{laid, cleared, placed}
 
 -- ---- clearing
 

@@ -1,12 +1,11 @@
-// What the reader does to lent buffers: it clears the first places, and stores a channel's samples into their places.
+// Lent buffers: the first places are cleared, a channel's samples stored into their places. How channels lie in scratch is said in specs/.
 ghost use mathlib.Core.Path.{_≡_};
 ghost use mathlib.Core.List.{map};
 ghost use Prim.Native.Nat.{_≤_};
 ghost use lib.ListN.{length};
 ghost use lib.IntN.{pos};
-ghost use Rattle.rules.specs.Buffers.{cleared};
+ghost use Rattle.rules.specs.Buffers.{cleared, placed};
 ghost use Rattle.rules.specs.Stream.{i16Output, i32Output};
-ghost use Rattle.laws.specs.Stored.{placed};
 ghost use Rattle.buffers.specs.Places.{Places};
 use words::low_i16;
 use words::shift_up;

@@ -19,17 +19,17 @@ use Rattle.rules.specs.declared.Refusal.{Refusal}
 use Rattle.rules.specs.Answers.{Ans, got, bad, answered}
 use Rattle.rules.specs.Stream.{Width}
 use Rattle.rules.specs.Packet.{Turn, audio, passed, end}
-use Rattle.laws.specs.Stored.{placed, stored}
+use Rattle.rules.specs.Buffers.{placed, stored}
 use Rattle.bitcursor.proofs.Laws.{place-plain}
 use Rattle.buffers.specs.Places.{Places}
-use Rattle.mix.specs.Halves.{parts}
+use Rattle.buffers.proofs.Halves.{parts-count}
+use Rattle.buffers.specs.Halves.{parts}
 use Rattle.dec_element.specs.Heard.{untracked}
 use Rattle.dec_packet.specs.declared.State.{State}
 use Rattle.dec_packet.specs.declared.Element.{Element}
 use Rattle.dec_packet.specs.declared.Element.the-variants.{Audio, Passed, End, Refused}
 use Rattle.dec_packet.specs.Told.{untrackedTurn, toldElement, Sane, Turns, Turnable}
 use Rattle.dec_packet.proofs.Element.{the-type}
-use Rattle.dec_packet.proofs.Laws.{parts-count}
 use Rattle.dec.specs.declared.Step.{Step}
 use Rattle.dec.specs.declared.Step.the-variants.{More, Done}
 use Rattle.dec.specs.Told.{Layable, stepAfter, Follows, outputTurned, Steppable, Steps}

@@ -13,16 +13,16 @@ use Rattle.rules.specs.declared.Answer.{Answer}
 use Rattle.rules.specs.Answers.{Ans, got, bad, bind, answered}
 use Rattle.rules.specs.Bits.{bitOf, placeOf, bitsOf}
 use Rattle.rules.specs.Stream.{Width, outputPlaces, scratchPlaces}
-use Rattle.rules.specs.Buffers.{cleared}
+use Rattle.rules.specs.Buffers.{cleared, stored}
 use Rattle.rules.specs.Element.{Sound}
 use Rattle.rules.specs.Packet.{Turn, audio, passed, end, followed, onward, turn, run, packet}
 use Rattle.rules.specs.Reader.{answerOf}
 use Rattle.laws.specs.Words.{Every, none, one, every-map}
-use Rattle.laws.specs.Stored.{stored, stored-length, stored-append, stored-rest, cleared-same}
+use Rattle.laws.specs.Stored.{stored-length, stored-append, stored-rest, cleared-same}
 use Rattle.laws.specs.Packet.{turn-grows}
 use Rattle.laws.specs.Shape.{all-got}
 use Rattle.laws.specs.Reader.{cleared-cleared, every-append, Fits, turn-fits, packet-shaped, kept, written-stored}
-use Rattle.mix.proofs.Halves.{with-length, with-rest}
+use Rattle.buffers.proofs.Halves.{with-length, with-rest}
 use Rattle.dec_packet.specs.declared.State.{State}
 use Rattle.dec_packet.specs.Told.{scratchTurned}
 use Rattle.dec.specs.declared.Step.{Step}

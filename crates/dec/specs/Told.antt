@@ -13,11 +13,10 @@ use Rattle.rules.specs.declared.Answer.the-variants.{Accepted, Refused}
 use Rattle.rules.specs.Answers.{Ans, got, bad, pick}
 use Rattle.rules.specs.Bits.{placeOf, bitsOf}
 use Rattle.rules.specs.Stream.{Width, accepted, outputPlaces, scratchPlaces}
-use Rattle.rules.specs.Buffers.{cleared}
+use Rattle.rules.specs.Buffers.{cleared, stored}
 use Rattle.rules.specs.Element.{Sound}
 use Rattle.rules.specs.Packet.{Turn, audio, passed, end, packet}
 use Rattle.rules.specs.Reader.{roomy, answerOf, written}
-use Rattle.laws.specs.Stored.{stored}
 use Rattle.dec_packet.specs.declared.State.{State}
 use Rattle.dec_packet.specs.declared.Element.{Element}
 use Rattle.dec_packet.specs.Told.{toldElement, scratchTurned}

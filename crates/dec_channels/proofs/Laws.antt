@@ -3,7 +3,6 @@ use Prim.Native.Nat.{ℕ, _+_, _-_, _*_, _≤_, _<_}
 use mathlib.Core.Path.{_≡_, refl, sym, ap, _∙_}
 use mathlib.Core.Bool.{Bool, true, false, _||_}
 use mathlib.Core.List.{List, [], _∷_, _++_, map}
-use native.Mathlib.Nat.{mul-le-mul-right}
 use native.Mathlib.Omega.{arith}
 use borrow.Author.Tests.{ne-eqb}
 use lib.Dec.{eqb}
@@ -26,11 +25,11 @@ use Rattle.bitcursor.specs.declared.Reached.{Reached}
 use Rattle.bitcursor.specs.declared.Reached.the-variants as reached
 use Rattle.bitcursor.specs.Reads.{toldAs, PlainAt, Reaches}
 use Rattle.dec_rice.specs.Promise.{filled, placeAfter}
-use Rattle.mix.specs.Halves.{parts, withParts}
-use Rattle.mix.proofs.Halves.{with-rest, parts-with, with-first, with-second}
-use Rattle.mix.specs.Fills.{Laid, Fills}
+use Rattle.buffers.specs.Halves.{parts, withParts}
+use Rattle.buffers.proofs.Halves.{halves-fit, with-rest, parts-with, with-first, with-second}
+use Rattle.buffers.specs.Fills.{Laid, Fills}
 use Rattle.dec_header.specs.declared.plan.Parameters.{Parameters}
-use Rattle.dec_header.specs.PlanTold.{AllowedChannel, paramsOf, channelsOf}
+use Rattle.dec_header.specs.Plan.{AllowedChannel, paramsOf, channelsOf}
 
 -- ---- one channel
 
@@ -127,10 +126,7 @@ module _ (half n : ℕ) (was : List ℤ) (n-le : n ≤ half) (room : 2 * half �
   rest-of chans h = with-rest half 2 chans was h room
 
   lies : (w : ℕ) (chans : List (List ℤ)) → w ≡ length chans → w ≤ 2 → Every (λ c. length c ≡ n) chans → parts half n w (withParts half chans was) ≡ chans
-  lies w chans e h f = rw e (parts-with half n n-le was f (fits (length chans) (omega arith)))
-    where
-      fits : (k : ℕ) → k ≤ 2 → k * half ≤ length was
-      fits k l = omega (arith, room, mul-le-mul-right half l)
+  lies w chans e h f = rw e (parts-with half n n-le was f (halves-fit half (length chans) (length was) (omega arith) room))
 
   laid-by : (w : ℕ) (chans : List (List ℤ)) (is : List ℤ) → is ≡ withParts half chans was → parts half n w is ≡ chans → (g : Reached) → Laid half n w was is g
   unfolding Laid

@@ -3,10 +3,10 @@ use Prim.Native.Nat.{ℕ, _≤_}
 use mathlib.Core.List.{List}
 use lib.IntN.{ℤ}
 use Rattle.rules.specs.declared.StreamInfo.{StreamInfo}
-use Rattle.mix.specs.Fills.{Roomy}
+use Rattle.buffers.specs.Fills.{Roomy}
 use Rattle.dec_header.specs.declared.plan.Parameters.{Parameters}
 use Rattle.dec_header.specs.declared.plan.Plan.{Plan}
-use Rattle.dec_header.specs.PlanTold.{AllowedChannel, AllowedPlan}
+use Rattle.dec_header.specs.Plan.{AllowedChannel, AllowedPlan}
 
 -- a sample of 1..32 bits, and parameters that cause 11 does not refuse
 pub record Predictable (bps : ℕ) (c : Parameters) : Type 0 where

@@ -1,2 +1,2 @@
-mod Laws
+mod Raw
 mod Sounds

@@ -3,7 +3,6 @@ use Prim.Native.Nat.{ℕ, zero, suc, _+_, _-_, _*_, _≤_, _<_}
 use mathlib.Core.Path.{_≡_, refl, sym, ap, _∙_}
 use mathlib.Core.Bool.{Bool, true, false}
 use mathlib.Core.List.{List, [], _∷_, _++_, map}
-use native.Mathlib.Nat.{mul-le-mul-right}
 use native.Mathlib.Omega.{arith}
 use borrow.Author.Tests.{le-leb, lt-leb, lt-ltb, le-ltb, leb-true, eq-eqb, ne-eqb}
 use lib.Dec.{leb, eqb}
@@ -27,24 +26,23 @@ use Rattle.bitcursor.specs.declared.Reached.{Reached}
 use Rattle.bitcursor.specs.declared.Reached.the-variants as reached
 use Rattle.bitcursor.specs.Reads.{toldAs, PlainAt, Reaches}
 use Rattle.bitcursor.proofs.Laws.{reached-of, refused-of, reached-plain-of, refused-plain-of}
-use Rattle.mix.specs.Halves.{parts, withParts}
-use Rattle.mix.specs.Fills.{Laid, Fills, Roomy}
-use Rattle.mix.proofs.Halves.{with-length, with-rest, parts-with, with-with}
+use Rattle.buffers.specs.Halves.{parts, withParts}
+use Rattle.buffers.specs.Fills.{Laid, Fills, Roomy}
+use Rattle.buffers.proofs.Halves.{halves-fit, parts-formed, with-length, with-rest, parts-with, with-with}
 use Rattle.dec_element.specs.declared.Heard.{Heard}
 use Rattle.dec_element.specs.declared.Heard.the-variants as heard
 use Rattle.dec_element.specs.Heard.{untracked, toldSound, PlainHeard, scratchHeard, Hears}
 use Rattle.dec_element.specs.Sounds.{afterPlan, here, Sounds, heardOf, Left, Hearing}
-use Rattle.mix.proofs.Finished.{parts-formed}
 
 -- ---- the last of the parts leaves the sound's channels where the first ones lay
 
 module _ (half n w : ℕ) (was mid : List ℤ) (chans : List (List ℤ)) (r : Roomy half n w was) (long : length mid ≡ length was)
     (before : mid ≡ withParts half (parts half n w mid) was) (formed : Formed w n chans) where
   room-of : (k : ℕ) → k ≤ 2 → k * half ≤ length was
-  room-of k l = omega (arith, r .room, mul-le-mul-right half l)
+  room-of k l = halves-fit half k (length was) l (r .room)
 
   mid-formed : Formed w n (parts half n w mid)
-  mid-formed = parts-formed half n w mid (r .short) (omega (arith, room-of w (r .two)))
+  mid-formed = parts-formed half n (r .short) w mid (omega (arith, room-of w (r .two)))
 
   pub laid-again : withParts half chans mid ≡ withParts half chans was
   laid-again =
@@ -160,7 +158,7 @@ pub compressed-sounds : (half n w : ℕ) (was mid is : List ℤ) {a : Ans Sound}
 unfolding toldAs PlainAt Laid
 compressed-sounds half n w was mid is shift mixBits mixRes extra r l before e laid-is tells plain =
     let chans : List (List ℤ) = withExtra w shift extra (unmixed mixBits mixRes (parts half n w mid)) in
-    let m = parts-formed half n w mid (r .short) (omega (arith, r .room, mul-le-mul-right half (r .two))) in
+    let m = parts-formed half n (r .short) w mid (omega (arith, halves-fit half w (length was) (r .two) (r .room))) in
     let f : Formed w n chans = extra-formed w shift n extra _ (r .some) e (unmixed-formed mixBits mixRes (parts half n w mid) m) in
     let there : parts half n w is ≡ chans = ap (parts half n w) laid-is ∙ lies-there half n w was mid chans r l before f in
     record {

@@ -10,7 +10,7 @@ use Rattle.rules.specs.Answers.{Ans, got, bad, answered}
 use Rattle.rules.specs.Bits.{bitOf}
 use Rattle.rules.specs.Buffers.{cleared}
 use Rattle.rules.specs.Element.{Sound}
-use Rattle.mix.specs.Halves.{parts, withParts}
+use Rattle.buffers.specs.Halves.{parts, withParts}
 use Rattle.dec_element.specs.declared.Heard.{Heard}
 use Rattle.dec_element.specs.declared.Heard.the-variants.{Samples, Refused}
 

@@ -10,7 +10,7 @@ use Rattle.rules.specs.Bits.{field}
 use Rattle.rules.specs.Words.{signed}
 use Rattle.bitcursor.specs.declared.Reached.{Reached}
 use Rattle.bitcursor.specs.Reads.{Reaches}
-use Rattle.mix.specs.Fills.{Roomy}
+use Rattle.buffers.specs.Fills.{Roomy}
 
 -- v has depth bits
 pub record Sample (depth v : ℕ) : Type 0 where

@@ -15,10 +15,10 @@ use Rattle.dec_element.specs.Heard.{untracked, toldSound, PlainHeard, He
 use Rattle.bitcursor.specs.declared.Reached.{Reached}
 use Rattle.bitcursor.specs.declared.Reached.the-variants.{At, Refused}
 use Rattle.bitcursor.specs.Reads.{Reaches}
-use Rattle.mix.specs.Halves.{parts, withParts}
-use Rattle.mix.specs.Fills.{Laid, Roomy}
+use Rattle.buffers.specs.Halves.{parts, withParts}
+use Rattle.buffers.specs.Fills.{Laid, Roomy}
 use Rattle.dec_header.specs.declared.plan.Plan.{Plan}
-use Rattle.dec_header.specs.PlanTold.{AllowedPlan}
+use Rattle.dec_header.specs.Plan.{AllowedPlan}
 
 -- the sound that lies in scratch
 abbrev pub here : ℕ → ℕ → ℕ → List ℤ → Sound

@@ -7,8 +7,8 @@ ghost use Rattle.rules.specs.Bits.{bitOf, bitsOf, field};
 ghost use Rattle.rules.specs.Buffers.{lanes};
 ghost use Rattle.rules.specs.Words.{signed};
 ghost use Rattle.rules.specs.Element.{compressed, uncompressed, audioElement};
-ghost use Rattle.mix.specs.Fills.{Fills};
-ghost use Rattle.dec_header.specs.PlanTold.{planOf};
+ghost use Rattle.buffers.specs.Fills.{Fills};
+ghost use Rattle.dec_header.specs.Plan.{planOf};
 ghost use Rattle.dec_element.specs.Raw.{Sample, Storable, Stores, Rawable, Rows};
 ghost use Rattle.dec_element.specs.Heard.{Hearable, Hears};
 ghost use Rattle.dec_element.specs.Sounds.{Prepared, afterPlan, Sounding, Sounds, Hearing, heardOf};
@@ -78,7 +78,7 @@ fn raw_row(
 }
 
 // The uncompressed half of decode_audio_element.
-pub fn raw_samples(
+fn raw_samples(
     packet: &[u8],
     start: Place,
     depth: u32,

@@ -1,3 +1,3 @@
-pub mod Laws
-pub mod PlanLaws
-mod Steps
+pub mod HeaderSame
+pub mod PlanSame
+mod PlanSteps

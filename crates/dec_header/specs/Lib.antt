@@ -1,2 +1,2 @@
-pub mod Told
-pub mod PlanTold
+pub mod Header
+pub mod Plan

@@ -1,10 +1,10 @@
-// What stands after an audio element's tag: its header.
+// An audio element's header, which stands after its tag. What a compressed element has next, its plan, is the module `plan`.
 pub mod plan;
 
 ghost use Rattle.rules.specs.Answers.{answered};
 ghost use Rattle.rules.specs.Bits.{bitOf, bitsOf};
 ghost use Rattle.rules.specs.Element.{sampleNumber, header};
-ghost use Rattle.dec_header.specs.Told.{SamePlace, headerWith, SamplesAsked, HeaderTold};
+ghost use Rattle.dec_header.specs.Header.{SamePlace, headerWith, SamplesAsked, HeaderTold};
 use bitcursor::Got;
 use bitcursor::read;
 use bitcursor::read_bit;
@@ -25,7 +25,7 @@ pub enum HeaderRead {
 }
 
 // The same place with a bit 0..7.
-pub fn plain(at: Place) -> Place
+fn plain(at: Place) -> Place
     ensures { λ r. ⌜ SamePlace at r ⌝ }
 {
     Place {

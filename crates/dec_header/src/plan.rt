@@ -5,7 +5,7 @@ ghost use Rattle.rules.specs.Answers.{answered, times};
 ghost use Rattle.rules.specs.Bits.{bitOf, bitsOf, field};
 ghost use Rattle.rules.specs.Words.{signed};
 ghost use Rattle.rules.specs.Element.{params, paramsOk, mixOk, planned};
-ghost use Rattle.dec_header.specs.PlanTold.{oldestFirst, noParameters, Settled, CoefsAsked, CoefsTold, ShortParameters, ParametersTold, paramsOf, OneOrTwo, ChannelsAsked, ChannelsTold, BothSettled, planOf, planOk, refusedPlan, judgedPlan, PlanTold};
+ghost use Rattle.dec_header.specs.Plan.{oldestFirst, noParameters, Settled, CoefsAsked, CoefsTold, ShortParameters, ParametersTold, paramsOf, OneOrTwo, ChannelsAsked, ChannelsTold, BothSettled, planOf, planOk, refusedPlan, judgedPlan, PlanTold};
 use crate::plain;
 use bitcursor::Got;
 use bitcursor::Reached;

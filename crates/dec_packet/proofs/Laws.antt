@@ -1,5 +1,5 @@
 -- One element: its sound judged against the sample number, elements without sound, and the eight tags.
-use Prim.Native.Nat.{ℕ, zero, suc, _+_, _*_, _<_, _≤_}
+use Prim.Native.Nat.{ℕ, _+_, _*_, _<_, _≤_}
 use mathlib.Core.Path.{_≡_, refl, ap, sym, _∙_}
 use mathlib.Core.Bool.{Bool, true, false}
 use mathlib.Core.List.{List, []}
@@ -27,19 +27,14 @@ use Rattle.bitcursor.specs.declared.Reached.{Reached}
 use Rattle.bitcursor.specs.declared.Reached.the-variants as reached
 use Rattle.bitcursor.specs.Reads.{Reaches}
 use Rattle.bitcursor.proofs.Laws.{reached-of, refused-of, reached-plain-of, refused-plain-of, skip-cut-of}
-use Rattle.mix.specs.Halves.{parts, withParts}
-use Rattle.mix.proofs.Halves.{with-length, with-rest}
+use Rattle.buffers.specs.Halves.{parts, withParts}
+use Rattle.buffers.proofs.Halves.{parts-count, with-length, with-rest}
 use Rattle.dec_element.specs.declared.Heard.{Heard}
 use Rattle.dec_element.specs.declared.Heard.the-variants as heard
 use Rattle.dec_element.specs.Heard.{untracked, toldSound, PlainHeard, scratchHeard, Hears}
 use Rattle.dec_packet.specs.declared.Element.{Element}
 use Rattle.dec_packet.specs.declared.Element.the-variants as element
 use Rattle.dec_packet.specs.Told.{untrackedTurn, toldElement, Sane, scratchTurned, Turns, Kept, Turning, passedBy}
-
-pub parts-count : (half n w : ℕ) (scr : List ℤ) → length (parts half n w scr) ≡ w
-unfolding parts
-parts-count half n zero scr = refl
-parts-count half n (suc w) scr = ap suc (parts-count half n w (drop half scr))
 
 -- ---- a sound, once it is heard
 

@@ -12,7 +12,7 @@ use Rattle.rules.specs.Buffers.{cleared}
 use Rattle.rules.specs.Packet.{Turn, audio, passed, end}
 use Rattle.bitcursor.specs.declared.Reached.{Reached}
 use Rattle.bitcursor.specs.declared.Reached.the-variants as reached
-use Rattle.mix.specs.Halves.{parts, withParts}
+use Rattle.buffers.specs.Halves.{parts, withParts}
 use Rattle.dec_element.specs.Heard.{untracked}
 use Rattle.dec_packet.specs.declared.State.{State}
 use Rattle.dec_packet.specs.declared.Element.{Element}

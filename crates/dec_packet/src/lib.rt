@@ -68,7 +68,7 @@ fn data_bytes(packet: &[u8], at: Place, asked: u32, bytes: u32) -> Reached
 }
 
 // The instance tag ties the data to an audio element: nobody uses it.
-pub fn data_element(packet: &[u8], at: Place) -> Reached
+fn data_element(packet: &[u8], at: Place) -> Reached
     requires { ⌜ at .bit < 8 ⌝ }
     ensures { λ r. ⌜ Reaches (dataElement (bitsOf (now (packet .entry))) (bitOf at)) passed r ⌝ }
 {
@@ -88,7 +88,7 @@ pub fn data_element(packet: &[u8], at: Place) -> Reached
 }
 
 // Short count 15 is not ours to read.
-pub fn fill_element(packet: &[u8], at: Place) -> Reached
+fn fill_element(packet: &[u8], at: Place) -> Reached
     requires { ⌜ at .bit < 8 ⌝ }
     ensures { λ r. ⌜ Reaches (fillElement (bitsOf (now (packet .entry))) (bitOf at)) passed r ⌝ }
 {

@@ -63,7 +63,7 @@ fn count_ones(packet: &[u8], start: Place) -> Got
 }
 
 // m is 2^k - 1 and not 2^k, so k = 1 leaves no remainder and k is never 0. It is passed, since a run's is masked.
-pub fn decode_rice_symbol(packet: &[u8], at: Place, m: u32, k: u32, bps: u32) -> Got
+fn decode_rice_symbol(packet: &[u8], at: Place, m: u32, k: u32, bps: u32) -> Got
     requires { ⌜ Sizes k m bps ⌝ }
     ensures { λ r. ⌜ Reads (symbol (bitsOf (now (packet .entry))) k m bps (bitOf at)) r ⌝ }
 {

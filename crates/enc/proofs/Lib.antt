@@ -1,4 +1,4 @@
-pub mod Laws
+pub mod Ranges
 pub mod Parts
 pub mod Packs
 pub mod Entry

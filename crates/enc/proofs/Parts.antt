@@ -16,8 +16,8 @@ use Rattle.laws.specs.Words.{Every, none, one}
 use Rattle.laws.specs.Writer.{ChannelTold, Told, Writable, told, samplesOf, mixedLanes, mixed-lanes-count, packet-limit}
 use Rattle.enc_bits.specs.declared.Sink.{Sink}
 use Rattle.enc_bits.specs.Sent.{Sent, start}
-use Rattle.enc_bits.proofs.Laws.{sent-sent, sent-padded}
-use Rattle.enc_channel.specs.Lane.{laneOf}
+use Rattle.enc_bits.proofs.Sent.{sent-sent, sent-padded}
+use Rattle.enc_channel.specs.Channel.{laneOf}
 
 -- ---- the channels that there are
 

@@ -1,4 +1,4 @@
--- What the parts of the writer ask and promise.
+-- What the parts of the writer ask and promise, from the parameters to the whole packet.
 use Prim.Native.Nat.{ℕ, _^_, _≤_, _<_}
 use mathlib.Core.Path.{_≡_}
 use mathlib.Core.List.{List, map}

@@ -1,4 +1,4 @@
--- What this crate asks and promises.
+-- What the test of refusal 20 promises, and what the packet's limit asks.
 use Prim.Native.Nat.{ℕ, _≤_}
 use mathlib.Core.Path.{_≡_}
 use mathlib.Core.Bool.{Bool}

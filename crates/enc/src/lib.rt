@@ -55,7 +55,7 @@ fn mix_in_range(channels: u32, mix_bits: u32, mix_res: u32) -> bool
     (mix_res <= 127) & (mix_res <= whole) & ((channels == 2) | ((mix_bits == 0) & (mix_res == 0)))
 }
 
-pub fn in_range(s: StreamInfo, t: PackingSettings) -> bool
+fn in_range(s: StreamInfo, t: PackingSettings) -> bool
     ensures { λ r. ⌜ r ≡ inRange s t ⌝ }
 {
     let channels = channels_in_range(s, t);
@@ -64,7 +64,7 @@ pub fn in_range(s: StreamInfo, t: PackingSettings) -> bool
 }
 
 // At most one frame, and as many samples of each channel.
-pub fn passage_fits(s: StreamInfo, length: usize) -> bool
+fn passage_fits(s: StreamInfo, length: usize) -> bool
     requires { ⌜ 1 ≤ s .«num_channels» ⌝ }
     ensures { λ r. ⌜ Fits s length r ⌝ }
 {
@@ -81,7 +81,7 @@ fn channel_limit(order: u32, n: usize) -> usize
 }
 
 // No packet of `n` samples a channel has more bytes.
-pub fn byte_limit(s: StreamInfo, t: PackingSettings, n: usize) -> usize
+fn byte_limit(s: StreamInfo, t: PackingSettings, n: usize) -> usize
     requires { ⌜ Limited s n ⌝ }
     ensures { λ r. ⌜ r ≡ (bitLimit n (settingsUsed s t) + 7) / 8 ⌝ }
 {

@@ -1,4 +1,4 @@
 pub mod Digits
-pub mod Laws
+pub mod Sent
 pub mod Same
-mod HeadLaws
+mod Around

@@ -13,7 +13,7 @@ use Rattle.laws.specs.Bits.{num-digits, length-bitsOf, Below}
 use Rattle.enc_bits.specs.declared.Sink.{Sink}
 use Rattle.enc_bits.specs.Sent.{Given, Sent}
 use Rattle.enc_bits.proofs.Digits.{bytes-bits}
-use Rattle.enc_bits.proofs.Laws.{given-length}
+use Rattle.enc_bits.proofs.Sent.{given-length}
 
 below-take : (m n : ℕ) (xs : List ℕ) → Below m xs → Below m (take n xs)
 below-take m zero xs h = tt

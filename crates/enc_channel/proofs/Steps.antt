@@ -16,7 +16,7 @@ use Rattle.laws.specs.Words.{Every, none, one}
 use Rattle.laws.specs.Buffers.{laid-all, laid-laid}
 use Rattle.laws.specs.Prediction.{residuals-length}
 use Rattle.laws.specs.Writer.{Told, samplesOf, residualsOf, mixed-lanes-count, mixed-lanes-length}
-use Rattle.enc_channel.specs.Lane.{laneOf}
+use Rattle.enc_channel.specs.Channel.{laneOf}
 
 every-at : {A : Type 0} {P : A → Type 0} {xs : List A} (i : ℕ) (z : A) → Every P xs → i < length xs → P (getD xs i z)
 every-at i z none h = absurd (omega arith)

@@ -8,7 +8,7 @@ ghost use Rattle.rules.specs.Stream.{factor};
 ghost use Rattle.rules.specs.Writer.{writtenBits, riceCode};
 ghost use Rattle.laws.specs.Writer.{residualsOf};
 ghost use Rattle.enc_bits.specs.Sent.{Sent};
-ghost use Rattle.enc_channel.specs.Lane.{Residing, Written, laneOf, Fillable, Lane, Laned};
+ghost use Rattle.enc_channel.specs.Channel.{Residing, Written, laneOf, Fillable, ChannelAsked, ChannelSent};
 use buffers::clear_i32;
 use dec_rice::Coding;
 use enc_bits::Sink;
@@ -99,8 +99,8 @@ pub fn put_channel(
     passage: &[i16],
     scratch: &mut [i32],
 ) -> Sink
-    requires { ⌜ Lane s t c which (now passage) out (now scratch) ⌝ }
-    ensures { λ r. ⌜ Laned s t c which (now (passage .entry)) (now (bytes .entry)) (now (bytes .exit)) out (now (scratch .entry)) (now (scratch .exit)) r ⌝ }
+    requires { ⌜ ChannelAsked s t c which (now passage) out (now scratch) ⌝ }
+    ensures { λ r. ⌜ ChannelSent s t c which (now (passage .entry)) (now (bytes .entry)) (now (bytes .exit)) out (now (scratch .entry)) (now (scratch .exit)) r ⌝ }
 {
     let n = passage.len() / s.num_channels as usize;
     let end = n + n;

@@ -21,7 +21,7 @@ use Rattle.laws.specs.Length.{rice-length}
 use Rattle.dec_rice.specs.declared.Coding.{Coding}
 use Rattle.enc_bits.specs.declared.Sink.{Sink}
 use Rattle.enc_bits.specs.Sent.{Ready, Takes, Sent}
-use Rattle.enc_bits.proofs.Laws.{sent-none, sent-sent, sent-ready}
+use Rattle.enc_bits.proofs.Sent.{sent-none, sent-sent, sent-ready}
 use Rattle.enc_rice.specs.declared.Code.{Code}
 use Rattle.enc_rice.specs.declared.Step.{Step}
 use Rattle.enc_rice.specs.Turn.{turnBits, turnOwed, turnHistory, turnPlus, rice-turn}

@@ -18,13 +18,13 @@ use Rattle.rules.specs.declared.Refusal.the-variants as refusal
 use Rattle.rules.specs.Answers.{Ans, got, pick, Read, check, refuse}
 use Rattle.rules.specs.Bits.{bitsOf, field, skip, skipToByte}
 use Rattle.rules.specs.Stream.{Width, outputPlaces}
-use Rattle.rules.specs.Buffers.{cleared, tails, interleaved}
+use Rattle.rules.specs.Buffers.{cleared, tails, interleaved, stored}
 use Rattle.rules.specs.Element.{Sound}
 use Rattle.rules.specs.Packet.{Turn, audio, passed, end, agrees, numberKnown, followed, onward, skipBytes, dataCount, aligned, dataBytes, dataElement, fillElement, soundElement, endElement, tagged, turn, run, packet}
 use Rattle.rules.specs.Reader.{written}
 use Rattle.laws.specs.Words.{Every, none, one}
 use Rattle.laws.specs.Buffers.{laid-length, laid-all}
-use Rattle.laws.specs.Stored.{tails-length, heads-length, tails-every, stored, stored-interleaved, cleared-same}
+use Rattle.laws.specs.Stored.{tails-length, heads-length, tails-every, stored-interleaved, cleared-same}
 use Rattle.laws.specs.Shape.{All, of-got, of-bad, all-bind, all-any, check-holds, Long, Formed, Shaped, element-shaped}
 
 -- ---- bits and buffers

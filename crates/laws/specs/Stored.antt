@@ -6,20 +6,10 @@ use native.Mathlib.Nat.{zero-add, suc-add, add-suc, add-zero, suc-mul, mul-le-mu
 use native.Mathlib.Omega.{arith}
 use lib.ListN.{length, take, drop, set, length-drop, length-set, length-replicate, take-append-drop, drop-of-length-le}
 use lib.Seq.{take-nil, length-take-le, drop-set-lt, set-append-left, sets, sets-eq}
-use Rattle.rules.specs.Buffers.{laid, cleared, heads, tails, interleaved}
+use Rattle.rules.specs.Buffers.{laid, cleared, heads, tails, interleaved, placed, stored}
 use Rattle.laws.specs.Words.{Every, none, one}
 
 module _ {A : Type 0} where
-  -- samples into the places k, k + c, k + 2 x c, ..; the others stay
-  unfoldable pub placed : ℕ → ℕ → List A → List A → List A
-  placed c k [] out = out
-  placed c k (x ∷ xs) out = placed c (k + c) xs (set out k x)
-
-  -- channels j, j + 1, .. of c, each into its places
-  unfoldable pub stored : ℕ → ℕ → List (List A) → List A → List A
-  stored c j [] out = out
-  stored c j (xs ∷ chans) out = stored c (suc j) chans (placed c j xs out)
-
   -- ---- placed
 
   placed-length : (c k : ℕ) (xs out : List A) → length (placed c k xs out) ≡ length out

@@ -46,7 +46,7 @@ fn predict_from(xs: &[i32], mean: i32, lpc_coefs: &[i16], lpc_quant: u32) -> i32
 }
 
 // What the residual at `i` is added to. Samples 1 to `order` have too few before them, and go by the previous one.
-pub fn forecast_at(buf: &[i32], i: usize, lpc_coefs: &[i16], lpc_quant: u32) -> i32
+fn forecast_at(buf: &[i32], i: usize, lpc_coefs: &[i16], lpc_quant: u32) -> i32
     requires { ⌜ Later «lpc_quant» i (now buf) (now «lpc_coefs») ⌝ }
     ensures { λ r. ⌜ r ≡ forecast «lpc_quant» (take i (now (buf .entry))) (now («lpc_coefs» .entry)) ⌝ }
 {
@@ -96,7 +96,7 @@ fn adapt(xs: &[i32], mean: i32, e: i32, lpc_quant: u32, lpc_coefs: &mut [i16])
 }
 
 // The coefficients after the sample at `i`, whose residual is `error`: they stay where the prediction was exact.
-pub fn adapt_at(buf: &[i32], i: usize, error: i32, lpc_quant: u32, lpc_coefs: &mut [i16])
+fn adapt_at(buf: &[i32], i: usize, error: i32, lpc_quant: u32, lpc_coefs: &mut [i16])
     requires { ⌜ Ready «lpc_quant» i (now buf) (now «lpc_coefs») ⌝ }
     ensures { λ _. ⌜ now («lpc_coefs» .exit) ≡ coefsAfter «lpc_quant» (take i (now (buf .entry))) (now («lpc_coefs» .entry)) error ⌝ }
 {

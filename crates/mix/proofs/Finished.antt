@@ -1,26 +1,22 @@
 -- Channels in scratch that are unmixed and take in their extra bits, and those that stay as they are.
 use Prim.Native.Nat.{ℕ, zero, suc, _-_, _*_, _^_, _≤_}
-use mathlib.Core.Path.{_≡_, refl, ap}
+use mathlib.Core.Path.{_≡_, refl}
 use mathlib.Core.Bool.{Bool, true, false}
 use mathlib.Core.List.{List, [], _∷_}
-use native.Mathlib.Nat.{suc-mul, mul-le-mul-right}
 use native.Mathlib.Omega.{arith}
 use borrow.Author.Tests.{ne-eqb}
 use lib.Dec.{ltb}
-use lib.ListN.{length, take, drop, length-drop, take-append-drop}
-use lib.Seq.{length-take-le, take-take}
+use lib.ListN.{length, take}
 use lib.IntN.{ℤ, pos, negsuc}
 use Rattle.rules.specs.Answers.{pick}
 use Rattle.rules.specs.Words.{isZero, signed}
 use Rattle.rules.specs.Buffers.{lanes, pairs}
 use Rattle.rules.specs.Mix.{leftOf, rightOf, onPair, unmixed}
 use Rattle.rules.specs.Element.{extended, withExtra}
-use Rattle.laws.specs.Words.{none, one}
 use Rattle.laws.specs.Shape.{Formed, unmixed-formed, extra-formed}
-use Rattle.mix.specs.Halves.{parts, withParts}
-use Rattle.laws.specs.Buffers.{laid-all}
-use Rattle.mix.proofs.Halves.{parts-with, with-with}
-use Rattle.mix.specs.Fills.{Roomy}
+use Rattle.buffers.specs.Halves.{parts, withParts}
+use Rattle.buffers.proofs.Halves.{halves-fit, parts-formed, parts-with, with-parts-same, with-with}
+use Rattle.buffers.specs.Fills.{Roomy}
 
 -- ---- the rules' cases
 
@@ -55,36 +51,11 @@ extra-some w shift extra chans h = rw (ne-eqb shift 0 h)
 
 module _ (half n : ℕ) where
   within : (w : ℕ) (scr : List ℤ) → Roomy half n w scr → w * half ≤ length scr
-  within w scr r = omega (arith, mul-le-mul-right half (r .two), r .room)
-
-  -- channels laid where they lie
-  pub with-parts-same : (w : ℕ) (scr : List ℤ) → n ≤ half → w * half ≤ length scr → withParts half (parts half n w scr) scr ≡ scr
-  unfolding parts withParts
-  with-parts-same zero scr short h = refl
-  with-parts-same (suc w) scr short h =
-      let k : half ≤ length scr = omega (arith, suc-mul w half) in
-      let m : w * half ≤ length (drop half scr) = rw length-drop (omega (arith, suc-mul w half)) in
-      let e : length (take n scr) ≡ n = length-take-le n scr (omega arith) in
-      rw (
-        laid-all (take n scr) (take half scr) (rw (e, length-take-le half scr k) short),
-        e,
-        ← take-take n half scr short,
-        take-append-drop n (take half scr),
-        with-parts-same w (drop half scr) short m,
-        take-append-drop half scr,
-      )
-
-  pub parts-formed : (w : ℕ) (scr : List ℤ) → n ≤ half → w * half ≤ length scr → Formed w n (parts half n w scr)
-  unfolding parts
-  parts-formed zero scr short h = record { count = refl; long = none }
-  parts-formed (suc w) scr short h =
-      let m : w * half ≤ length (drop half scr) = rw length-drop (omega (arith, suc-mul w half)) in
-      let f = parts-formed w (drop half scr) short m in
-      record { count = ap suc (f .count); long = one (length-take-le n scr (omega (arith, suc-mul w half))) (f .long) }
+  within w scr r = halves-fit half w (length scr) (r .two) (r .room)
 
   module _ (w : ℕ) (scr : List ℤ) (r : Roomy half n w scr) where
     abbrev same : withParts half (parts half n w scr) scr ≡ scr
-    same = with-parts-same w scr (r .short) (within w scr r)
+    same = with-parts-same half n (r .short) w scr (within w scr r)
 
     pub one-stays : (mixBits : ℕ) (mixRes : ℤ) → w ≡ 1 → withParts half (unmixed mixBits mixRes (parts half n w scr)) scr ≡ scr
     unfolding parts
@@ -114,5 +85,5 @@ module _ (half n : ℕ) where
         → mid ≡ withParts half (unmixed mixBits mixRes (parts half n w scr)) scr
         → withParts half (withExtra w shift extra (parts half n w mid)) mid ≡ withParts half (withExtra w shift extra (unmixed mixBits mixRes (parts half n w scr))) scr
     both mid mixBits mixRes shift extra l e =
-        let u = unmixed-formed mixBits mixRes (parts half n w scr) (parts-formed w scr (r .short) (within w scr r)) in
+        let u = unmixed-formed mixBits mixRes (parts half n w scr) (parts-formed half n (r .short) w scr (within w scr r)) in
         rw e (again (withExtra w shift extra) (unmixed mixBits mixRes (parts half n w scr)) u (extra-formed w shift n extra _ (r .some) l u))

@@ -1,4 +1,4 @@
--- One channel of the mixed passage: the rule's cases.
+-- The writer's mix: one channel of the mixed passage, by the rule's cases.
 use Prim.Native.Nat.{ℕ, zero, suc, _<_}
 use mathlib.Core.Path.{_≡_, refl}
 use mathlib.Core.Bool.{Bool, true, false}

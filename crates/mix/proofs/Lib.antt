@@ -1,5 +1,4 @@
-pub mod Halves
-pub mod Turns
+pub mod ScratchTurns
 pub mod Finished
-pub mod BlendTurns
+pub mod PassageTurns
 pub mod Lanes

@@ -1,4 +1,4 @@
--- What mixing a channel asks of its caller, and what it makes of a pair.
+-- The writer's mix: what it asks of its caller, and what it makes of a pair.
 use Prim.Native.Nat.{ℕ, zero, suc, _*_, _≤_, _<_}
 use mathlib.Core.Path.{_≡_}
 use mathlib.Core.List.{List}

@@ -8,9 +8,8 @@ ghost use Rattle.rules.specs.Buffers.{lanes, pairs, lane};
 ghost use Rattle.rules.specs.Mix.{rightOf, leftOf, onPair, unmixed, midOf, mixed};
 ghost use Rattle.rules.specs.Element.{numbers, extended, withExtra};
 ghost use Rattle.rules.specs.Words.{signed, sub32};
-ghost use Rattle.mix.specs.Halves.{parts, withParts};
-ghost use Rattle.mix.specs.Contracts.{Unmixable, Appendable, Takes, Took};
-ghost use Rattle.mix.specs.Finish.{UnmixAsked, Extendable, Finishable};
+ghost use Rattle.buffers.specs.Halves.{parts, withParts};
+ghost use Rattle.mix.specs.Finish.{Unmixable, UnmixAsked, Takes, Took, Extendable, Finishable};
 ghost use Rattle.mix.specs.Mixable.{Mixable, mixedSample};
 use bitcursor::Got;
 use bitcursor::read;
@@ -35,7 +34,7 @@ fn right_of(u: i32, v: i32, mix_bits: u32, mix_res: i32) -> i32
 }
 
 // u and v become left and right.
-pub fn unmix_stereo(scratch: &mut [i32], half: usize, n: usize, mix_bits: u32, mix_res: i32)
+fn unmix_stereo(scratch: &mut [i32], half: usize, n: usize, mix_bits: u32, mix_res: i32)
     requires { ⌜ Unmixable half n «mix_bits» (now scratch) ⌝ }
     ensures { λ _. ⌜ now (scratch .exit) ≡ withParts half (onPair (leftOf «mix_bits» «mix_res») (rightOf «mix_bits» «mix_res») (parts half n 2 (now (scratch .entry)))) (now (scratch .entry)) ⌝ }
 {
@@ -74,7 +73,7 @@ fn append_at(packet: &[u8], at: Place, scratch: &mut [i32], k: usize, shift: u32
 }
 
 // Extra bits lie sample by sample, a pair's first channel before its second.
-pub fn append_extra_bits(
+fn append_extra_bits(
     packet: &[u8],
     start: Place,
     scratch: &mut [i32],
@@ -83,7 +82,7 @@ pub fn append_extra_bits(
     channels: usize,
     shift: u32,
 )
-    requires { ⌜ Appendable (bitsOf (now packet)) (bitOf start) half n channels shift (now scratch) ⌝ }
+    requires { ⌜ Extendable (bitsOf (now packet)) (bitOf start) half n channels shift (now scratch) ⌝ }
     ensures { λ _. ⌜ now (scratch .exit) ≡ withParts half (pairs (pairs (extended shift)) (parts half n channels (now (scratch .entry))) (lanes channels (numbers (n * channels) shift (drop (bitOf start) (bitsOf (now (packet .entry))))))) (now (scratch .entry)) ⌝ }
 {
     let mut at = start;
@@ -105,7 +104,7 @@ pub fn append_extra_bits(
 // ---- The last step of a compressed element, once its samples are predicted: unmixing, then extra bits.
 
 // A pair whose mix_res is not 0 is unmixed; anything else is as it is.
-pub fn unmix(scratch: &mut [i32], half: usize, n: usize, channels: u32, mix_bits: u32, mix_res: u32)
+fn unmix(scratch: &mut [i32], half: usize, n: usize, channels: u32, mix_bits: u32, mix_res: u32)
     requires { ⌜ UnmixAsked half n channels «mix_bits» «mix_res» (now scratch) ⌝ }
     ensures { λ _. ⌜ now (scratch .exit) ≡ withParts half (unmixed «mix_bits» (signed 8 «mix_res») (parts half n channels (now (scratch .entry)))) (now (scratch .entry)) ⌝ }
 {
@@ -120,7 +119,7 @@ pub fn unmix(scratch: &mut [i32], half: usize, n: usize, channels: u32, mix_bits
 }
 
 // Each sample is shifted left and takes its extra bits, where there are any.
-pub fn extend_all(
+fn extend_all(
     packet: &[u8],
     extra: Place,
     scratch: &mut [i32],

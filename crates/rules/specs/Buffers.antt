@@ -1,7 +1,7 @@
 -- Document 01, "When the dock is told no": what lent buffers become, and how channels lie in them. Said once for any kind of place.
 use Prim.Native.Nat.{ℕ, zero, suc, _+_, _-_}
 use mathlib.Core.List.{List, [], _∷_, _++_, map}
-use lib.ListN.{length, take, drop, replicate}
+use lib.ListN.{length, take, drop, set, replicate}
 
 module _ {A : Type 0} where
   -- the first places are xs, as many as there are; later ones stay
@@ -27,6 +27,16 @@ module _ {A : Type 0} where
   unfoldable pub interleaved : ℕ → List (List A) → List A
   interleaved zero chans = []
   interleaved (suc n) chans = heads chans ++ interleaved n (tails chans)
+
+  -- samples into the places k, k + c, k + 2 x c, ..; the others stay
+  unfoldable pub placed : ℕ → ℕ → List A → List A → List A
+  placed c k [] out = out
+  placed c k (x ∷ xs) out = placed c (k + c) xs (set out k x)
+
+  -- channels j, j + 1, .. of c, each into its places
+  unfoldable pub stored : ℕ → ℕ → List (List A) → List A → List A
+  stored c j [] out = out
+  stored c j (xs ∷ chans) out = stored c (suc j) chans (placed c j xs out)
 
   -- the sample after `wait` others, and every later one after `gap` more
   unfoldable pub every : ℕ → ℕ → List A → List A

@@ -1,4 +1,4 @@
--- What this crate promises.
+-- Refusal 2, whatever the output's width.
 use mathlib.Core.Path.{_≡_}
 use mathlib.Core.Bool.{Bool}
 use Rattle.rules.specs.declared.StreamInfo.{StreamInfo}

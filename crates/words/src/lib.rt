@@ -5,7 +5,7 @@ ghost use lib.IntN.{pos, _+ℤ_};
 ghost use Rattle.rules.specs.Words.{modZ, signed, wrap, add32, sub32, mul32, shiftRight, shiftLeft, sign, unfolded, folded};
 
 // The low 32 bits of `s`, as a number.
-pub fn low_i32(s: i64) -> i32
+fn low_i32(s: i64) -> i32
     ensures { λ r. ⌜ r ≡ wrap 32 s ⌝ }
 {
     ((s << 32) >> 32) as i32

@@ -7,7 +7,7 @@ use Rattle.rules.specs.Rice.{rice}
 use Rattle.rules.specs.Element.{channel}
 use Rattle.bitcursor.specs.Reads.{toldAs, PlainAt}
 use Rattle.bitcursor.proofs.Laws.{reached-of, refused-of, reached-plain-of}
-use Rattle.dec_header.specs.PlanTold.{paramsOf}
+use Rattle.dec_header.specs.Plan.{paramsOf}
 use Rattle.dec_channels.proofs.Laws.{from-refused, from-plain, from-summed, from-other}
 use borrow.Author.Needs.{needs}
 use Rattle.dec_channels.proofs.decode_channel.Statement.{statement}

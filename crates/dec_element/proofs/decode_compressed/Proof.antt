@@ -4,7 +4,7 @@ use Prim.Native.Nat.{_*_}
 use native.Mathlib.Omega.{arith}
 use Rattle.rules.specs.Bits.{bitOf, bitsOf}
 use Rattle.bitcursor.proofs.Laws.{reached-of, refused-of, reached-plain-of, refused-plain-of}
-use Rattle.dec_header.specs.PlanTold.{SanePlan}
+use Rattle.dec_header.specs.Plan.{SanePlan}
 use Rattle.dec_element.proofs.Sounds.{sound-refused, wide-refused, none-refused, plan-refused, plan-read}
 use borrow.Author.Needs.{needs}
 use Rattle.dec_element.proofs.decode_compressed.Statement.{statement}

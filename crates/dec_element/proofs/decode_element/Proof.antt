@@ -1,7 +1,7 @@
 -- `decode_element` meets its contract: the header, then the body that it names.
 use mathlib.Core.Path.{sym, ap, _∙_}
 use Rattle.rules.specs.Bits.{bitOf, bitsOf}
-use Rattle.dec_header.specs.Told.{toldHeader, SaneHeader}
+use Rattle.dec_header.specs.Header.{toldHeader, SaneHeader}
 use Rattle.dec_element.proofs.Sounds.{header-refused, refused-hearing, body-compressed, body-raw, sounds-hearing}
 use borrow.Author.Needs.{needs}
 use Rattle.dec_element.proofs.decode_element.Statement.{statement}

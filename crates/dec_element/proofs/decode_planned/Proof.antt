@@ -6,8 +6,8 @@ use native.Mathlib.Omega.{arith}
 use Rattle.rules.specs.Bits.{bitOf, bitsOf}
 use Rattle.laws.specs.Shape.{numbers-length}
 use Rattle.bitcursor.proofs.Laws.{reached-of, refused-of, reached-plain-of, refused-plain-of, skip-cut-of, skip-next}
-use Rattle.mix.specs.Fills.{Laid}
-use Rattle.dec_header.specs.PlanTold.{planOf}
+use Rattle.buffers.specs.Fills.{Laid}
+use Rattle.dec_header.specs.Plan.{planOf}
 use Rattle.dec_element.proofs.Sounds.{sound-refused, extra-refused, each-refuses, each-sounds, compressed-sounds}
 use borrow.Author.Needs.{needs}
 use Rattle.dec_element.proofs.decode_planned.Statement.{statement}

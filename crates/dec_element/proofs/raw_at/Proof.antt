@@ -3,7 +3,7 @@ use mathlib.Core.Path.{_∙_}
 use Rattle.rules.specs.Bits.{bitOf}
 use Rattle.bitcursor.proofs.Laws.{value-of, read-lt}
 use Rattle.words.proofs.Laws.{held32}
-use Rattle.dec_element.proofs.Laws.{stores-cut, stores-value}
+use Rattle.dec_element.proofs.Raw.{stores-cut, stores-value}
 use borrow.Author.Needs.{needs}
 use Rattle.dec_element.proofs.raw_at.Statement.{statement}
 use Rattle.dec_element.proofs.raw_at.Tie as tie

@@ -1,7 +1,7 @@
 -- A row is one sample, or two.
 use native.Mathlib.Omega.{arith}
 use Rattle.bitcursor.proofs.Laws.{reached-plain-of}
-use Rattle.dec_element.proofs.Laws.{rows-cut, rows-one, rows-two}
+use Rattle.dec_element.proofs.Raw.{rows-cut, rows-one, rows-two}
 use borrow.Author.Needs.{needs}
 use Rattle.dec_element.proofs.raw_row.Statement.{statement}
 use Rattle.dec_element.proofs.raw_row.Tie as tie

@@ -2,7 +2,7 @@
 use Prim.Native.Nat.{_-_}
 use native.Mathlib.Omega.{arith}
 use Rattle.rules.specs.Bits.{bitOf, bitsOf}
-use Rattle.dec_element.proofs.Laws.{Filling, filling-start, filling-cut, filling-next, filling-done}
+use Rattle.dec_element.proofs.Raw.{Filling, filling-start, filling-cut, filling-next, filling-done}
 use borrow.Author.Needs.{needs}
 use Rattle.dec_element.proofs.raw_samples.Statement.{statement}
 use Rattle.dec_element.proofs.raw_samples.Tie as tie

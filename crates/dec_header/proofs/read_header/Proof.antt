@@ -7,8 +7,8 @@ use Rattle.rules.specs.Answers.{bind}
 use Rattle.rules.specs.Bits.{bitOf}
 use Rattle.rules.specs.Element.{header}
 use Rattle.bitcursor.proofs.Laws.{value-of, cut-of, plain-of}
-use Rattle.dec_header.specs.Told.{toldHeader, SaneHeader}
-use Rattle.dec_header.proofs.Laws.{answered-give}
+use Rattle.dec_header.specs.Header.{toldHeader, SaneHeader}
+use Rattle.dec_header.proofs.HeaderSame.{answered-give}
 use Rattle.dec_header.proofs.read_header.Statement.{statement}
 use Rattle.dec_header.proofs.read_header.Tie as tie
 

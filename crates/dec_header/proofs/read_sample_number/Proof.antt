@@ -6,8 +6,8 @@ use Rattle.rules.specs.Answers.{bind, answered}
 use Rattle.rules.specs.Bits.{bitOf, bitsOf}
 use Rattle.rules.specs.Element.{sampleNumber}
 use Rattle.bitcursor.proofs.Laws.{value-of, cut-of, plain-of}
-use Rattle.dec_header.specs.Told.{toldHeader, SaneHeader}
-use Rattle.dec_header.proofs.Laws.{number-partial}
+use Rattle.dec_header.specs.Header.{toldHeader, SaneHeader}
+use Rattle.dec_header.proofs.HeaderSame.{number-partial}
 use Rattle.dec_header.proofs.read_sample_number.Statement.{statement}
 use Rattle.dec_header.proofs.read_sample_number.Tie as tie
 

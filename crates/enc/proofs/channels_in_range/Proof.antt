@@ -1,7 +1,7 @@
 -- `channels_in_range` meets its contract: each channel that is there is judged.
 use borrow.Author.Needs.{needs}
 use Rattle.rules.specs.Writer.{channelInRange}
-use Rattle.enc.proofs.Laws.{all-used}
+use Rattle.enc.proofs.Ranges.{all-used}
 use Rattle.enc.proofs.channels_in_range.Statement.{statement}
 use Rattle.enc.proofs.channels_in_range.Tie as tie
 

@@ -5,7 +5,7 @@ use mathlib.Core.Path.{_≡_}
 use native.Mathlib.Omega.{arith}
 use lib.ListN.{length}
 use Rattle.laws.specs.Writer.{told, samplesOf}
-use Rattle.enc_bits.proofs.Laws.{sent-ready}
+use Rattle.enc_bits.proofs.Sent.{sent-ready}
 use Rattle.enc.proofs.Parts.{parts-lt, parts-sent}
 use Rattle.enc.proofs.emit.Statement.{statement}
 use Rattle.enc.proofs.emit.Tie as tie

@@ -7,7 +7,7 @@ use native.Mathlib.Omega.{arith}
 use lib.Pow.{shl-exact}
 use borrow.Author.Tests.{le-leb, lt-leb}
 use Rattle.rules.specs.Writer.{mixInRange}
-use Rattle.enc.proofs.Laws.{le-both}
+use Rattle.enc.proofs.Ranges.{le-both}
 use Rattle.enc.proofs.mix_in_range.Statement.{statement}
 use Rattle.enc.proofs.mix_in_range.Tie as tie
 

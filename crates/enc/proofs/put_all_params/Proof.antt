@@ -7,7 +7,7 @@ use native.Mathlib.Omega.{arith}
 use lib.ListN.{length-take}
 use Rattle.rules.specs.Writer.{joined}
 use Rattle.laws.specs.Writer.{params-length}
-use Rattle.enc_bits.proofs.Laws.{sent-sent, sent-ready}
+use Rattle.enc_bits.proofs.Sent.{sent-sent, sent-ready}
 use Rattle.enc.proofs.Parts.{first-told, second-told}
 use Rattle.enc.proofs.put_all_params.Statement.{statement}
 use Rattle.enc.proofs.put_all_params.Tie as tie

@@ -10,8 +10,8 @@ use Rattle.rules.specs.Buffers.{cleared}
 use Rattle.rules.specs.Writer.{writtenBits}
 use Rattle.laws.specs.Writer.{channel-length, written-bits, samplesOf}
 use Rattle.laws.specs.Buffers.{laid-length}
-use Rattle.enc_bits.proofs.Laws.{sent-sent, sent-ready}
-use Rattle.enc_channel.specs.Lane.{laneOf}
+use Rattle.enc_bits.proofs.Sent.{sent-sent, sent-ready}
+use Rattle.enc_channel.specs.Channel.{laneOf}
 use Rattle.enc_channel.proofs.Steps.{lane-length}
 use Rattle.laws.specs.Reader.{cleared-cleared}
 use Rattle.enc.proofs.Parts.{first-told, second-told, codes-one, codes-two}

@@ -1,5 +1,5 @@
 -- `put` meets its contract: byte after byte goes out of the bits that wait and those that came, and what is left waits.
-use Rattle.enc_bits.proofs.Laws.{Draining, draining-next, draining-done, all-lt}
+use Rattle.enc_bits.proofs.Sent.{Draining, draining-next, draining-done, all-lt}
 use native.Mathlib.Omega.{arith}
 use lib.Pow.{pow-pos}
 use borrow.Author.Needs.{needs}

@@ -4,7 +4,7 @@ use mathlib.Core.Path.{ap, _∙_}
 use native.Mathlib.Omega.{arith}
 use Rattle.rules.specs.Words.{modZ}
 use Rattle.words.proofs.Laws.{held16}
-use Rattle.enc_bits.proofs.HeadLaws.{Putting, putting-start, putting-takes, putting-next, putting-done}
+use Rattle.enc_bits.proofs.Around.{Putting, putting-start, putting-takes, putting-next, putting-done}
 use borrow.Author.Needs.{needs}
 use Rattle.enc_bits.proofs.put_coefs.Statement.{statement}
 use Rattle.enc_bits.proofs.put_coefs.Tie as tie

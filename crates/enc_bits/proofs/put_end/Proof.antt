@@ -1,7 +1,7 @@
 -- `put_end` meets its contract: END goes out, and the zeros that are left to the edge.
 use native.Mathlib.Omega.{arith}
 use lib.Pow.{pow-pos}
-use Rattle.enc_bits.proofs.HeadLaws.{next-ready, sent-end}
+use Rattle.enc_bits.proofs.Around.{next-ready, sent-end}
 use borrow.Author.Needs.{needs}
 use Rattle.enc_bits.proofs.put_end.Statement.{statement}
 use Rattle.enc_bits.proofs.put_end.Tie as tie

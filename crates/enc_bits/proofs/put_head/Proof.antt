@@ -1,7 +1,7 @@
 -- `put_head` meets its contract: the fields up to the count in one number, the rest in another.
 use native.Mathlib.Omega.{arith}
-use Rattle.enc_bits.proofs.Laws.{sent-sent}
-use Rattle.enc_bits.proofs.HeadLaws.{next-ready, head-partial, head-full}
+use Rattle.enc_bits.proofs.Sent.{sent-sent}
+use Rattle.enc_bits.proofs.Around.{next-ready, head-partial, head-full}
 use borrow.Author.Needs.{needs}
 use Rattle.enc_bits.proofs.put_head.Statement.{statement}
 use Rattle.enc_bits.proofs.put_head.Tie as tie

@@ -1,6 +1,6 @@
 -- `put_params` meets its contract: the fields go out in one number, and the coefficients after them.
-use Rattle.enc_bits.proofs.Laws.{sent-sent}
-use Rattle.enc_bits.proofs.HeadLaws.{params-joined, coefs-next}
+use Rattle.enc_bits.proofs.Sent.{sent-sent}
+use Rattle.enc_bits.proofs.Around.{params-joined, coefs-next}
 use borrow.Author.Needs.{needs}
 use Rattle.enc_bits.proofs.put_params.Statement.{statement}
 use Rattle.enc_bits.proofs.put_params.Tie as tie

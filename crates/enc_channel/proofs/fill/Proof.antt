@@ -14,7 +14,7 @@ use mir.Syntax.{w32}
 use mir.Val.{toZ}
 use mir.Facts.{toZ-pos}
 use Rattle.enc_channel.proofs.Steps.{lane-length, fill-done}
-use Rattle.enc_channel.specs.Lane.{laneOf}
+use Rattle.enc_channel.specs.Channel.{laneOf}
 use Rattle.enc_channel.proofs.fill.Statement.{statement}
 use Rattle.enc_channel.proofs.fill.Tie as tie
 

@@ -12,7 +12,7 @@ use mathlib.Core.Path.{refl}
 use lib.ListN.{length-append, length-take}
 use Rattle.enc_channel.proofs.Steps.{channel-bits, residuals-count}
 use Rattle.enc_channel.proofs.Steps.{lane-length, second-part, cleared-over}
-use Rattle.enc_channel.specs.Lane.{laneOf}
+use Rattle.enc_channel.specs.Channel.{laneOf}
 use Rattle.enc_channel.proofs.put_channel.Statement.{statement}
 use Rattle.enc_channel.proofs.put_channel.Tie as tie
 

@@ -1,5 +1,5 @@
 -- `put_turn` meets its contract: the symbol goes out, and the run after it if it has bits.
-use Rattle.enc_bits.proofs.Laws.{sent-sent}
+use Rattle.enc_bits.proofs.Sent.{sent-sent}
 use Rattle.enc_rice.specs.Code.{codeBits}
 use Rattle.enc_rice.proofs.Turns.{run-takes, sent-alone}
 use borrow.Author.Needs.{needs}

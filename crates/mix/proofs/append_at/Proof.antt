@@ -6,7 +6,7 @@ use lib.ListN.{getD}
 use lib.IntN.{pos}
 use Rattle.rules.specs.Bits.{bitOf, bitsOf}
 use Rattle.words.proofs.Laws.{held32}
-use Rattle.mix.proofs.Turns.{never-short, takes-in}
+use Rattle.mix.proofs.ScratchTurns.{never-short, takes-in}
 use Rattle.mix.proofs.append_at.Statement.{statement}
 use Rattle.mix.proofs.append_at.Tie as tie
 

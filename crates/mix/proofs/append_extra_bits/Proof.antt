@@ -5,7 +5,7 @@ use native.Mathlib.Omega.{arith}
 use borrow.Author.Needs.{needs}
 use lib.ListN.{length-set}
 use Rattle.rules.specs.Bits.{bitOf, bitsOf}
-use Rattle.mix.proofs.Turns.{Appending, appending-start, first-there, second-there, appending-one, appending-two, appending-done}
+use Rattle.mix.proofs.ScratchTurns.{Appending, appending-start, first-there, second-there, appending-one, appending-two, appending-done}
 use Rattle.mix.proofs.append_extra_bits.Statement.{statement}
 use Rattle.mix.proofs.append_extra_bits.Tie as tie
 
@@ -26,7 +26,7 @@ append-at-requires c κs =
     let k = c .before .before in
     let a = k .before .before .pre in
     record {
-      inside = omega (arith, k .loop .inv .same, a .room, a .short);
+      inside = omega (arith, k .loop .inv .same, a .roomy .room, a .roomy .short);
       few = a .few;
       there = first-there a (k .loop .inv) (omega arith);
     }
@@ -37,7 +37,7 @@ append-at-requires-2 c κs =
     let a = k .before .before .pre in
     let t = c .before .before .before .append-at .ensures in
     record {
-      inside = rw (t .sample, length-set) (omega (arith, k .loop .inv .same, a .room, a .short));
+      inside = rw (t .sample, length-set) (omega (arith, k .loop .inv .same, a .roomy .room, a .roomy .short));
       few = a .few;
       there = second-there a (k .loop .inv) (omega arith) (c .before .if1 .taken) t;
     }

@@ -7,7 +7,7 @@ use lib.IntN.{ℤ, pos}
 use mir.Syntax.{w16, w32}
 use Rattle.rules.specs.Buffers.{lane}
 use Rattle.words.proofs.Laws.{wide, wide-fits}
-use Rattle.mix.proofs.BlendTurns.{Filling, filling-start, filling-next, filling-done, laneFrom, lane-start, lane-inside, lane-next, lane-end}
+use Rattle.mix.proofs.PassageTurns.{Filling, filling-start, filling-next, filling-done, laneFrom, lane-start, lane-inside, lane-next, lane-end}
 use Rattle.mix.proofs.copy_lane.Statement.{statement}
 use Rattle.mix.proofs.copy_lane.Tie as tie
 

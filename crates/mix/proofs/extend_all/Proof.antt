@@ -5,7 +5,7 @@ use borrow.Author.Needs.{needs}
 use lib.ListN.{drop}
 use Rattle.rules.specs.Bits.{bitOf, bitsOf}
 use Rattle.rules.specs.Element.{numbers}
-use Rattle.mix.specs.Halves.{parts}
+use Rattle.buffers.specs.Halves.{parts}
 use Rattle.mix.proofs.Finished.{extra-some, extra-stays}
 use Rattle.mix.proofs.extend_all.Statement.{statement}
 use Rattle.mix.proofs.extend_all.Tie as tie

@@ -7,7 +7,7 @@ use lib.IntN.{ℤ, pos}
 use mir.Syntax.{w16, w32}
 use mir.Val.{toZ}
 use Rattle.words.proofs.Laws.{held32, wide, wide-fits}
-use Rattle.mix.proofs.BlendTurns.{Filling, filling-start, filling-next, filling-done, mixedFrom, mixedLane, mixed-start, mixed-next, mixed-end}
+use Rattle.mix.proofs.PassageTurns.{Filling, filling-start, filling-next, filling-done, mixedFrom, mixedLane, mixed-start, mixed-next, mixed-end}
 use Rattle.mix.proofs.mix_pairs.Statement.{statement}
 use Rattle.mix.proofs.mix_pairs.Tie as tie
 

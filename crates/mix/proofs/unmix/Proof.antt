@@ -7,7 +7,7 @@ use mir.Val.{toZ, ofZ}
 use mir.ValLaws.{toZ-pos}
 use Rattle.rules.specs.Words.{signed, wrap}
 use Rattle.laws.specs.Words.{wrap-pos}
-use Rattle.mix.specs.Halves.{parts}
+use Rattle.buffers.specs.Halves.{parts}
 use Rattle.words.proofs.Laws.{held32}
 use Rattle.mix.proofs.Finished.{unmixed-pair, one-stays, unmixed-stays}
 use Rattle.mix.proofs.unmix.Statement.{statement}

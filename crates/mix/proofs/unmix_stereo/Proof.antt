@@ -9,7 +9,7 @@ use mir.Syntax.{w32}
 use mir.Val.{toZ, ofZ}
 use Rattle.rules.specs.Mix.{rightOf, leftOf}
 use Rattle.words.proofs.Laws.{held32}
-use Rattle.mix.proofs.Turns.{Unmixing, unmixing-start, unmixing-next, unmixing-done}
+use Rattle.mix.proofs.ScratchTurns.{Unmixing, unmixing-start, unmixing-next, unmixing-done}
 use Rattle.mix.proofs.unmix_stereo.Statement.{statement}
 use Rattle.mix.proofs.unmix_stereo.Tie as tie
 

@@ -4,7 +4,7 @@ use native.Mathlib.Omega.{arith}
 use lib.ListN.{length}
 use borrow.Author.Needs.{needs}
 use Rattle.rules.specs.Cookie.{fromCookie, pastAtom, pastAtoms, frma, alac}
-use Rattle.stream.proofs.Laws.{from24-short, from24-long, past-atom-length}
+use Rattle.stream.proofs.Cookie.{from24-short, from24-long, past-atom-length}
 use Rattle.stream.proofs.from_cookie.Statement.{statement}
 use Rattle.stream.proofs.from_cookie.Tie as tie
 

@@ -1,7 +1,7 @@
 -- Each field is its bytes as a number; one byte is that number itself.
 use native.Mathlib.Omega.{arith}
 use borrow.Author.Needs.{needs}
-use Rattle.stream.proofs.Laws.{byte-at}
+use Rattle.stream.proofs.Cookie.{byte-at}
 use Rattle.stream.proofs.info_of.Statement.{statement}
 use Rattle.stream.proofs.info_of.Tie as tie
 

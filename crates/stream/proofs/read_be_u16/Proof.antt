@@ -1,7 +1,7 @@
 -- Two bytes are one and one more.
 use native.Mathlib.Omega.{arith}
 use borrow.Author.Needs.{needs}
-use Rattle.stream.proofs.Laws.{bytes-add, byte-at, bytes-whole}
+use Rattle.stream.proofs.Cookie.{bytes-add, byte-at, bytes-whole}
 use Rattle.stream.proofs.read_be_u16.Statement.{statement}
 use Rattle.stream.proofs.read_be_u16.Tie as tie
 

@@ -1,7 +1,7 @@
 -- Four bytes are two and two more.
 use native.Mathlib.Omega.{arith}
 use borrow.Author.Needs.{needs}
-use Rattle.stream.proofs.Laws.{bytes-add, bytes-whole}
+use Rattle.stream.proofs.Cookie.{bytes-add, bytes-whole}
 use Rattle.stream.proofs.read_be_u32.Statement.{statement}
 use Rattle.stream.proofs.read_be_u32.Tie as tie
 

@@ -1,7 +1,7 @@
 -- The tests in their order.
 use borrow.Author.Tests.{ne-eqb}
 use Rattle.rules.specs.Element.{mixOk}
-use Rattle.dec_header.proofs.Steps.{signed-zero}
+use Rattle.dec_header.proofs.PlanSteps.{signed-zero}
 use Rattle.dec_header.proofs.plan.mix_ok.Statement.{statement}
 use Rattle.dec_header.proofs.plan.mix_ok.Tie as tie
 

@@ -2,7 +2,7 @@
 use native.Mathlib.Omega.{arith}
 use borrow.Author.Tests.{lt-ltb, le-ltb}
 use Rattle.rules.specs.Element.{paramsOk}
-use Rattle.dec_header.proofs.PlanLaws.{settled-order}
+use Rattle.dec_header.proofs.PlanSame.{settled-order}
 use Rattle.dec_header.proofs.plan.parameters_ok.Statement.{statement}
 use Rattle.dec_header.proofs.plan.parameters_ok.Tie as tie
 

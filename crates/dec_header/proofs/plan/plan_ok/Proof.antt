@@ -3,7 +3,7 @@ use mathlib.Core.Path.{sym, _∙_}
 use borrow.Author.Needs.{needs}
 use borrow.Author.Tests.{eq-eqb, ne-eqb, not-true, not-false}
 use Rattle.rules.specs.Element.{allOf}
-use Rattle.dec_header.specs.PlanTold.{channelsOf}
+use Rattle.dec_header.specs.Plan.{channelsOf}
 use Rattle.dec_header.proofs.plan.plan_ok.Statement.{statement}
 use Rattle.dec_header.proofs.plan.plan_ok.Tie as tie
 

@@ -4,7 +4,7 @@ use borrow.Author.Needs.{needs}
 use Rattle.rules.specs.Bits.{bitOf, bitsOf}
 use Rattle.rules.specs.Element.{params}
 use Rattle.bitcursor.proofs.Laws.{reached-plain-of}
-use Rattle.dec_header.proofs.Steps.{channels-refused, channels-one, channels-two}
+use Rattle.dec_header.proofs.PlanSteps.{channels-refused, channels-one, channels-two}
 use Rattle.dec_header.proofs.plan.read_channels.Statement.{statement}
 use Rattle.dec_header.proofs.plan.read_channels.Tie as tie
 

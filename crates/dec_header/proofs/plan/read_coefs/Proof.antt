@@ -4,7 +4,7 @@ use borrow.Author.Needs.{needs}
 use Rattle.rules.specs.Bits.{bitOf, bitsOf}
 use Rattle.bitcursor.proofs.Laws.{value-of, cut-of, plain-of, read-lt}
 use Rattle.words.proofs.Laws.{held16}
-use Rattle.dec_header.proofs.Steps.{Filling, filling-start, filling-next, filling-short, filling-done}
+use Rattle.dec_header.proofs.PlanSteps.{Filling, filling-start, filling-next, filling-short, filling-done}
 use Rattle.dec_header.proofs.plan.read_coefs.Statement.{statement}
 use Rattle.dec_header.proofs.plan.read_coefs.Tie as tie
 

@@ -4,7 +4,7 @@ use Rattle.rules.specs.Answers.{bind}
 use Rattle.rules.specs.Bits.{bitOf, bitsOf}
 use Rattle.rules.specs.Element.{params}
 use Rattle.bitcursor.proofs.Laws.{value-of, cut-of, plain-of, read-lt}
-use Rattle.dec_header.proofs.Steps.{parameters-short, parameters-read, factor-fits}
+use Rattle.dec_header.proofs.PlanSteps.{parameters-short, parameters-read, factor-fits}
 use Rattle.dec_header.proofs.plan.read_parameters.Statement.{statement}
 use Rattle.dec_header.proofs.plan.read_parameters.Tie as tie
 

@@ -4,7 +4,7 @@ use Rattle.rules.specs.Answers.{bind}
 use Rattle.rules.specs.Bits.{bitOf}
 use Rattle.rules.specs.Element.{planned}
 use Rattle.bitcursor.proofs.Laws.{value-of, cut-of, plain-of, read-lt, reached-of, refused-of, reached-plain-of, refused-plain-of}
-use Rattle.dec_header.proofs.Steps.{plan-refused, plan-judged}
+use Rattle.dec_header.proofs.PlanSteps.{plan-refused, plan-judged}
 use Rattle.dec_header.proofs.plan.read_plan.Statement.{statement}
 use Rattle.dec_header.proofs.plan.read_plan.Tie as tie
 

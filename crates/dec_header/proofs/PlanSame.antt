@@ -1,4 +1,4 @@
--- That the promise permits one answer.
+-- The plan: its promise permits one answer.
 use Prim.Native.Nat.{ℕ, zero, suc, _-_, _^_, _≤_, _<_}
 use mathlib.Core.Path.{_≡_, refl, sym, ap, ap₂, _∙_}
 use mathlib.Core.List.{List, [], _∷_, _++_}
@@ -20,7 +20,7 @@ use Rattle.bitcursor.proofs.Laws.{place-same, reaches-same}
 use Rattle.dec_header.specs.declared.plan.Parameters.{Parameters}
 use Rattle.dec_header.specs.declared.plan.Plan.{Plan}
 use Rattle.dec_header.specs.declared.plan.PlanRead.{PlanRead}
-use Rattle.dec_header.specs.PlanTold.{paramsOf, noParameters, Settled, OneOrTwo, channelsOf, planOf, AllowedPlan, SanePlan, PlanTold}
+use Rattle.dec_header.specs.Plan.{paramsOf, noParameters, Settled, OneOrTwo, channelsOf, planOf, AllowedPlan, SanePlan, PlanTold}
 
 pub settled-length : {c : Parameters} → Settled c → length (c .coefs) ≡ 32
 settled-length {c} f = omega (arith, f .order-lt, length-drop (c .order) (c .coefs), ap length (f .rest), length-replicate (32 - c .order) (pos 0))

@@ -8,7 +8,7 @@ use Rattle.rules.specs.Answers.{Ans}
 use Rattle.bitcursor.specs.declared.Reached.{Reached}
 use Rattle.bitcursor.specs.declared.Reached.the-variants.{At, Refused}
 use Rattle.bitcursor.specs.Reads.{Reaches}
-use Rattle.mix.specs.Halves.{parts, withParts}
+use Rattle.buffers.specs.Halves.{parts, withParts}
 
 -- one channel or two of n samples have room in scratch
 pub record Roomy (half n w : ℕ) (scratch : List ℤ) : Type 0 where

@@ -1,4 +1,4 @@
--- The tests as the code makes them are those of the rules.
+-- Refusal 19: the tests as the code makes them are those of the rules.
 use Prim.Native.Nat.{ℕ, zero, suc, _≤_, _<_, min}
 use mathlib.Core.Path.{_≡_, refl, sym}
 use mathlib.Core.Bool.{Bool, true, false, _&&_, _||_}

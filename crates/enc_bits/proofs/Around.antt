@@ -17,7 +17,7 @@ use Rattle.laws.specs.Words.{modZ-lt}
 use Rattle.enc_bits.specs.declared.Sink.{Sink}
 use Rattle.enc_bits.specs.Sent.{Ready, Takes, Sent}
 use Rattle.enc_bits.proofs.Digits.{digits-join, digits-zero}
-use Rattle.enc_bits.proofs.Laws.{sent-none, sent-sent, sent-ready}
+use Rattle.enc_bits.proofs.Sent.{sent-none, sent-sent, sent-ready}
 use Rattle.enc_bits.specs.Around.{Open, Heads, Params, Coefs}
 
 -- after one put the sink is ready for another

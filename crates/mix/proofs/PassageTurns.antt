@@ -1,4 +1,4 @@
--- The loops over a passage: what is in the first places, with what the rules make of the rest, is the whole.
+-- The loops over a passage, which the writer mixes: what is in the first places, with what the rules make of the rest, is the whole.
 use Prim.Native.Nat.{ℕ, zero, suc, _+_, _-_, _*_, _≤_, _<_}
 use mathlib.Core.Path.{_≡_, refl, _∙_}
 use mathlib.Core.List.{List, [], _∷_, _++_, append-nil}

@@ -24,8 +24,8 @@ use Rattle.bitcursor.specs.declared.Reached.{Reached}
 use Rattle.bitcursor.specs.declared.Reached.the-variants.{At, Refused}
 use Rattle.bitcursor.specs.Reads.{toldAs, PlainAt, Reads}
 use Rattle.bitcursor.proofs.Laws.{value-of, cut-of, plain-of, reached-of, refused-of, reached-plain-of, refused-plain-of}
-use Rattle.mix.specs.Halves.{parts, withParts}
-use Rattle.mix.specs.Fills.{Laid, Fills, Roomy}
+use Rattle.buffers.specs.Halves.{parts, withParts}
+use Rattle.buffers.specs.Fills.{Laid, Fills, Roomy}
 use Rattle.dec_element.specs.Raw.{Stores, rowLaid, Rows}
 
 -- ---- answers

@@ -1,4 +1,4 @@
--- What the answers of this crate tell of the rules, and what they ask and hold.
+-- What the answer of an element's header tells of the rules, and what reading it asks.
 use Prim.Native.Nat.{ℕ, _≤_, _<_}
 use mathlib.Core.Path.{_≡_}
 use Rattle.rules.specs.declared.Place.{Place}
@@ -13,8 +13,6 @@ use Rattle.dec_header.specs.declared.HeaderRead.the-variants.{Known, Ref
 pub record SamePlace (at r : Place) : Type 0 where
   pub same : bitOf r ≡ bitOf at
   pub plain : r .bit < 8
-
--- ---- the header
 
 -- the header of a shift code, an uncompressed bit and a sample number
 abbrev pub headerWith : ℕ → ℕ → ℕ → rule.Header

@@ -1,4 +1,4 @@
--- What the answers of this crate tell of the rules, and what they ask and hold.
+-- What the answers of a compressed element's parameters and plan tell of the rules, and what they ask and hold.
 use Prim.Native.Nat.{ℕ, _-_, _≤_, _<_}
 use mathlib.Core.Path.{_≡_}
 use mathlib.Core.Bool.{Bool, _&&_}

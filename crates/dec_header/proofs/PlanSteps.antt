@@ -1,4 +1,4 @@
--- The steps of the code: the coefficients one after the other, and what is judged of a plan.
+-- The steps of reading a plan: the coefficients one after the other, a channel's parameters, and what is judged.
 use Prim.Native.Nat.{ℕ, zero, suc, _-_, _*_, _^_, _≤_, _<_}
 use mathlib.Core.Path.{_≡_, refl, sym, ap, _∙_}
 use mathlib.Core.Bool.{Bool, true, false, _&&_, and-eq-true-iff}
@@ -24,9 +24,9 @@ use Rattle.bitcursor.specs.declared.Reached.{Reached}
 use Rattle.bitcursor.specs.declared.Reached.the-variants.{At, Refused}
 use Rattle.bitcursor.specs.Reads.{toldAs, PlainAt, Reaches}
 use Rattle.bitcursor.proofs.Laws.{reached-of, refused-of}
-use Rattle.dec_header.proofs.Laws.{answered-give}
-use Rattle.dec_header.proofs.PlanLaws.{settled-order}
-use Rattle.dec_header.specs.PlanTold.{oldestFirst, paramsOf, noParameters, Settled, CoefsTold, ShortParameters, ParametersTold, channelsOf, ChannelsTold, planOf, BothSettled, planOk, refusedPlan, judgedPlan, AllowedChannel, AllowedPlan, SanePlan, PlanTold}
+use Rattle.dec_header.proofs.HeaderSame.{answered-give}
+use Rattle.dec_header.proofs.PlanSame.{settled-order}
+use Rattle.dec_header.specs.Plan.{oldestFirst, paramsOf, noParameters, Settled, CoefsTold, ShortParameters, ParametersTold, channelsOf, ChannelsTold, planOf, BothSettled, planOk, refusedPlan, judgedPlan, AllowedChannel, AllowedPlan, SanePlan, PlanTold}
 use Rattle.dec_header.specs.declared.plan.Plan.{Plan}
 use Rattle.dec_header.specs.declared.plan.Parameters.{Parameters}
 

@@ -1,21 +1,31 @@
--- Channels that were laid into scratch: they are there, the last ones laid win, later places stay; and parts of scratch that come back from a loan.
+-- How channels lie in scratch: those that were laid are there, the last ones laid win, later places stay; and parts of scratch that come back from a loan.
 use Prim.Native.Nat.{ℕ, zero, suc, _+_, _-_, _*_, _≤_}
 use mathlib.Core.Path.{_≡_, refl, sym, ap, _∙_}
 use mathlib.Core.List.{List, [], _∷_, _++_, append-assoc}
-use native.Mathlib.Nat.{suc-mul}
+use native.Mathlib.Nat.{suc-mul, mul-le-mul-right}
 use native.Mathlib.Omega.{arith}
-use lib.ListN.{length, take, drop, length-append, length-take, length-drop, take-append-drop}
-use lib.Seq.{length-take-le, take-all, drop-append-le, drop-append-add, take-at, drop-at, drop-drop, take-take}
+use lib.ListN.{length, take, drop, length-append, length-drop, take-append-drop}
+use lib.Seq.{length-take-le, drop-append-le, take-at, drop-at, drop-drop, take-take}
 use lib.IntN.{ℤ}
 use borrow.Rule.Slice.PartMut.{putMid}
 use Rattle.rules.specs.Buffers.{laid}
 use Rattle.laws.specs.Words.{Every, none, one}
 use Rattle.laws.specs.Buffers.{laid-length, laid-all, laid-laid}
-use Rattle.mix.specs.Halves.{parts, withParts}
+use Rattle.laws.specs.Shape.{Formed}
+use Rattle.buffers.specs.Halves.{parts, withParts}
 
 -- ---- channels in scratch
 
 module _ (half : ℕ) where
+  -- one channel or two have their halves in scratch of two frames
+  pub halves-fit : (w len : ℕ) → w ≤ 2 → 2 * half ≤ len → w * half ≤ len
+  halves-fit w len two room = omega (arith, mul-le-mul-right half two)
+
+  pub parts-count : (n w : ℕ) (scr : List ℤ) → length (parts half n w scr) ≡ w
+  unfolding parts
+  parts-count n zero scr = refl
+  parts-count n (suc w) scr = ap suc (parts-count n w (drop half scr))
+
   pub with-length : (chans : List (List ℤ)) (scr : List ℤ) → length (withParts half chans scr) ≡ length scr
   unfolding withParts
   with-length [] scr = refl
@@ -66,6 +76,30 @@ module _ (half : ℕ) where
     parts-with scr (one {x = xs} {xs = chans} e es) h =
         let l = less (length chans) scr h in
         rw (take-with xs scr e (l .0) chans, with-drop xs chans scr (l .0), parts-with (drop half scr) es (l .1))
+
+    pub parts-formed : (w : ℕ) (scr : List ℤ) → w * half ≤ length scr → Formed w n (parts half n w scr)
+    unfolding parts
+    parts-formed zero scr h = record { count = refl; long = none }
+    parts-formed (suc w) scr h =
+        let l = less w scr h in
+        let f = parts-formed w (drop half scr) (l .1) in
+        record { count = ap suc (f .count); long = one (length-take-le n scr (omega (arith, l .0))) (f .long) }
+
+    -- laid where they lie
+    pub with-parts-same : (w : ℕ) (scr : List ℤ) → w * half ≤ length scr → withParts half (parts half n w scr) scr ≡ scr
+    unfolding parts withParts
+    with-parts-same zero scr h = refl
+    with-parts-same (suc w) scr h =
+        let l = less w scr h in
+        let e : length (take n scr) ≡ n = length-take-le n scr (omega (arith, l .0)) in
+        rw (
+          laid-all (take n scr) (take half scr) (in-half (take n scr) scr e (l .0)),
+          e,
+          ← take-take n half scr short,
+          take-append-drop n (take half scr),
+          with-parts-same w (drop half scr) (l .1),
+          take-append-drop half scr,
+        )
 
     -- laid again over the same places: the last wins
     pub with-with : {chans more : List (List ℤ)} (scr : List ℤ) → Every (λ c. length c ≡ n) chans → Every (λ c. length c ≡ n) more

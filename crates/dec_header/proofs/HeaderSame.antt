@@ -1,4 +1,4 @@
--- That the promise permits one answer, and the sample number of a partial element.
+-- The header: its promise permits one answer, and a partial element has its sample number in it.
 use Prim.Native.Nat.{ℕ, zero, suc}
 use mathlib.Core.Path.{_≡_, refl, sym, ap, _∙_}
 use mathlib.Core.List.{List}
@@ -13,14 +13,13 @@ use Rattle.bitcursor.proofs.Laws.{place-same}
 use Rattle.dec_header.specs.declared.Header.{Header}
 use Rattle.dec_header.specs.declared.HeaderRead.{HeaderRead}
 use Rattle.dec_header.specs.declared.HeaderRead.the-variants.{Known, Refused}
-use Rattle.dec_header.specs.Told.{headerOf, toldHeader, SaneHeader, HeaderTold}
+use Rattle.dec_header.specs.Header.{headerOf, toldHeader, SaneHeader, HeaderTold}
 
--- ---- the header
+-- ---- one answer
 
 abbrev headerFrom : rule.Header → Header
 headerFrom h = record { code = h .code; raw = h .raw; samples = h .samples }
 
--- the promise permits one answer
 pub header-same : {frame : ℕ} {a : Ans rule.Header} (g h : HeaderRead) → HeaderTold frame a g → HeaderTold frame a h → g ≡ h
 unfolding toldHeader SaneHeader
 header-same (Known v pl) (Known w ql) r s =

@@ -1,4 +1,4 @@
--- What this crate asks and promises.
+-- What writing a channel asks and promises: its samples, their residuals, its bits.
 use Prim.Native.Nat.{ℕ, _+_, _^_, _≤_, _<_}
 use mathlib.Core.Path.{_≡_}
 use mathlib.Core.List.{List, []}
@@ -43,7 +43,7 @@ pub record Fillable (s : StreamInfo) (t : PackingSettings) (c : ChannelSettings)
   pub room : length buf ≡ n + n
 
 -- the same, with scratch and a sink
-pub record Lane (s : StreamInfo) (t : PackingSettings) (c : ChannelSettings) (which : ℕ) (passage : List ℤ) (out : Sink) (scr : List ℤ) : Type 0 where
+pub record ChannelAsked (s : StreamInfo) (t : PackingSettings) (c : ChannelSettings) (which : ℕ) (passage : List ℤ) (out : Sink) (scr : List ℤ) : Type 0 where
   pub passes : Told s t passage
   pub settings : ChannelTold s c
   pub there : which < s .«num_channels»
@@ -52,6 +52,6 @@ pub record Lane (s : StreamInfo) (t : PackingSettings) (c : ChannelSettings) (wh
   pub room : out .at < 2 ^ 40
 
 -- its bits went out, and scratch is clear
-pub record Laned (s : StreamInfo) (t : PackingSettings) (c : ChannelSettings) (which : ℕ) (passage : List ℤ) (was is : List ℕ) (out : Sink) (scr scr′ : List ℤ) (r : Sink) : Type 0 where
+pub record ChannelSent (s : StreamInfo) (t : PackingSettings) (c : ChannelSettings) (which : ℕ) (passage : List ℤ) (was is : List ℕ) (out : Sink) (scr scr′ : List ℤ) (r : Sink) : Type 0 where
   pub sent : Sent was is out (channelCode s (writtenBits s t) c (laneOf s t passage which) .bits) r
   pub left : scr′ ≡ cleared (pos 0) (scratchPlaces s) scr

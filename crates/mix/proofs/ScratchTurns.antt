@@ -1,4 +1,4 @@
--- One turn of each loop: what is done, and what the rules make of the rest, is what they make of all.
+-- The loops over scratch, unmixing and extra bits: what is done, with what the rules make of the rest, is the whole.
 use Prim.Native.Nat.{ℕ, zero, suc, _+_, _-_, _*_, _≤_, _<_}
 use mathlib.Core.Path.{_≡_, refl, sym, _∙_}
 use mathlib.Core.List.{List, [], _∷_, _++_, append-assoc, append-nil}
@@ -17,8 +17,8 @@ use Rattle.bitcursor.specs.declared.Got.{Got}
 use Rattle.bitcursor.specs.declared.Got.the-variants.{Value, Short}
 use Rattle.bitcursor.specs.Reads.{Reads}
 use Rattle.bitcursor.proofs.Laws.{within-value, within-got, value-of, short-of}
-use Rattle.mix.specs.Halves.{parts, withParts}
-use Rattle.mix.specs.Contracts.{Appendable, Took}
+use Rattle.buffers.specs.Halves.{parts, withParts}
+use Rattle.mix.specs.Finish.{Extendable, Took}
 use Rattle.laws.specs.Buffers.{laid-all}
 
 -- ---- a store to a channel that is done up to i
@@ -240,14 +240,14 @@ module _
 
 module _
     {bits : List ℕ} {half n shift start w : ℕ} {was is : List ℤ} {p i : ℕ}
-    (a : Appendable bits start half n w shift was) (u : Appending bits half n shift start w was is p i) (h : i < n) where
+    (a : Extendable bits start half n w shift was) (u : Appending bits half n shift start w was is p i) (h : i < n) where
   -- the bits of this turn are there
   turn-there : p + shift * w ≤ length bits
   turn-there =
       omega (arith, place-next start shift i w (u .place), mul-le-mul-left shift (mul-le-mul-right {m = i + 1} {n = n} w (omega arith)), a .there)
 
   pub first-there : p + shift ≤ length bits
-  first-there = omega (arith, turn-there, mul-le-mul-left {m = 1} {n = w} shift (a .some))
+  first-there = omega (arith, turn-there, mul-le-mul-left {m = 1} {n = w} shift (a .roomy .some))
 
   pub second-there : w ≡ 2 → {mid : List ℤ} {k : ℕ} {pl : Place} → Took bits p shift k is mid pl → bitOf pl + shift ≤ length bits
   second-there e t = rw (t .after) (omega (arith, rw e at turn-there))
@@ -255,31 +255,31 @@ module _
   pub appending-one : (w ≡ 2 → ⊥) → {is′ : List ℤ} {pl : Place} → Took bits p shift i is is′ pl
       → Appending bits half n shift start w was is′ (bitOf pl) (i + 1)
   appending-one other t =
-      let e : w ≡ 1 = omega (arith, a .some, a .two) in
-      rw e (next-one h (a .short) (a .room) (rw e at u) t)
+      let e : w ≡ 1 = omega (arith, a .roomy .some, a .roomy .two) in
+      rw e (next-one h (a .roomy .short) (a .roomy .room) (rw e at u) t)
 
   pub appending-two : w ≡ 2 → {mid is′ : List ℤ} {pl ql : Place}
       → Took bits p shift i is mid pl → Took bits (bitOf pl) shift (half + i) mid is′ ql
       → Appending bits half n shift start w was is′ (bitOf ql) (i + 1)
-  appending-two e t r = rw e (next-two h (a .short) (a .room) (rw e at u) t r)
+  appending-two e t r = rw e (next-two h (a .roomy .short) (a .roomy .room) (rw e at u) t r)
 
 module _ {bits : List ℕ} {half n shift start : ℕ} {was is : List ℤ} {p i : ℕ} where
-  pub appending-done : (w : ℕ) → Appendable bits start half n w shift was → Appending bits half n shift start w was is p i → n ≤ i
+  pub appending-done : (w : ℕ) → Extendable bits start half n w shift was → Appending bits half n shift start w was is p i → n ≤ i
       → is ≡ withParts half (allExtended bits half n shift start w was) was
   unfolding parts pairs upTo withParts
-  appending-done zero a u h = absurd (omega (arith, a .some))
+  appending-done zero a u h = absurd (omega (arith, a .roomy .some))
   appending-done (suc zero) a u h =
-      let k : half ≤ length is = omega (arith, u .same, a .room) in
-      rw (none-left half n is i h, all-done half n is i h (a .short) k, take-append-drop) at (u .goes)
+      let k : half ≤ length is = omega (arith, u .same, a .roomy .room) in
+      rw (none-left half n is i h, all-done half n is i h (a .roomy .short) k, take-append-drop) at (u .goes)
   appending-done (suc (suc zero)) a u h =
-      let k : half ≤ length is = omega (arith, u .same, a .room) in
-      let l : half ≤ length (drop half is) = simp length-drop (omega (arith, u .same, a .room)) in
+      let k : half ≤ length is = omega (arith, u .same, a .roomy .room) in
+      let l : half ≤ length (drop half is) = simp length-drop (omega (arith, u .same, a .roomy .room)) in
       rw (
         none-left half n is i h,
         none-left half n (drop half is) i h,
-        all-done half n is i h (a .short) k,
-        all-done half n (drop half is) i h (a .short) l,
+        all-done half n is i h (a .roomy .short) k,
+        all-done half n (drop half is) i h (a .roomy .short) l,
         take-append-drop,
         take-append-drop,
       ) at (u .goes)
-  appending-done (suc (suc (suc w))) a u h = absurd (omega (arith, a .two))
+  appending-done (suc (suc (suc w))) a u h = absurd (omega (arith, a .roomy .two))
