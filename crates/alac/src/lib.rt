@@ -1,4 +1,6 @@
 // The boundary: exported functions over the entries, and nothing else. A slice is a pointer and a length; an array is a pointer.
+#![tactic(auto)]
+
 ghost use Rattle.std.specs.Prelude.{◌≡◌, [], ◌∷◌};
 ghost use Rattle.rules.specs.Refusals.{read_number, read_count, packed_number, packed_count};
 ghost use Rattle.rules.specs.Stream.{i16_output, i32_output};

@@ -1,4 +1,6 @@
 // The bits of a packet, most significant first: the packet and a place by value, so that no packet length overflows.
+#![tactic(auto)]
+
 ghost use Rattle.std.specs.Prelude.{◌+◌, ◌*◌, ◌≤◌};
 ghost use Rattle.rules.specs.Bits.{bit_of, bits_of, field, skip, skip_to_byte};
 ghost use Rattle.bitcursor.specs.Reads.{Enough, Reads, Reaches};

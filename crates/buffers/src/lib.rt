@@ -1,4 +1,6 @@
 // Lent buffers: the first places are cleared, a channel's samples stored into their places. How channels lie in scratch is said in specs/.
+#![tactic(auto)]
+
 ghost use Rattle.std.specs.Prelude.{◌≡◌, map, ◌≤◌, length, pos};
 ghost use Rattle.rules.specs.Buffers.{cleared, placed};
 ghost use Rattle.rules.specs.Stream.{i16_output, i32_output};

@@ -1,4 +1,6 @@
 // A packet read whole, for `i16` and for `i32` output.
+#![tactic(auto)]
+
 ghost use Rattle.std.specs.Prelude.{◌≡◌, map, ◌≤◌, length, pos};
 ghost use Rattle.rules.specs.Bits.{bit_of, bits_of};
 ghost use Rattle.rules.specs.Stream.{i16_output, i32_output, scratch_places};

@@ -1,4 +1,6 @@
 // The channels of a compressed element: the Rice data of each, then its prediction.
+#![tactic(auto)]
+
 ghost use Rattle.std.specs.Prelude.{◌≡◌, [], map, length, take};
 ghost use Rattle.rules.specs.Answers.{answered, each};
 ghost use Rattle.rules.specs.Bits.{bit_of, bits_of};

@@ -1,4 +1,6 @@
 // A whole audio element, compressed or not.
+#![tactic(auto)]
+
 ghost use Rattle.std.specs.Prelude.{◌≡◌, ◌+◌, ◌*◌, map};
 ghost use Rattle.rules.specs.Answers.{answered, times};
 ghost use Rattle.rules.specs.Bits.{bit_of, bits_of, field};

@@ -1,4 +1,6 @@
 // An audio element's header, which stands after its tag. What a compressed element has next, its plan, is the module `plan`.
+#![tactic(auto)]
+
 pub mod plan;
 
 ghost use Rattle.rules.specs.Answers.{answered};

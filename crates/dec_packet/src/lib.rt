@@ -1,4 +1,6 @@
 // One element of a packet, whatever its tag; data and fill elements.
+#![tactic(auto)]
+
 ghost use Rattle.std.specs.Prelude.{◌<◌, ◌≡◌};
 ghost use Rattle.rules.specs.Bits.{bit_of, bits_of};
 ghost use Rattle.rules.specs.Packet.{passed, skip_bytes, data_count, aligned, data_bytes, data_element, fill_element, agrees, number_known, sound_element, end_element, turn};

@@ -1,4 +1,6 @@
 // Rice symbols, and the residuals of a channel that they carry.
+#![tactic(auto)]
+
 ghost use Rattle.std.specs.Prelude.{◌≡◌, ◌<◌, length};
 ghost use Rattle.rules.specs.Bits.{bit_of, bits_of};
 ghost use Rattle.rules.specs.Symbol.{ones, symbol};

@@ -1,4 +1,6 @@
 // `encode_packet_i16`: what it takes, how long a packet can be, and a passage into its one packet.
+#![tactic(auto)]
+
 ghost use Rattle.std.specs.Prelude.{◌≡◌, ◌+◌, ◌/◌, ◌*◌, ◌≤◌, map};
 ghost use Rattle.rules.specs.Element.{all_of};
 ghost use Rattle.rules.specs.Writer.{channel_in_range, mix_in_range, settings_used, in_range, bit_limit, joined, param_bits};

@@ -1,4 +1,6 @@
 // Bits into bytes; the element's head, a channel's parameters, END.
+#![tactic(auto)]
+
 ghost use Rattle.std.specs.Prelude.{◌≡◌, ◌/◌, ◌%◌, ◌^◌, ◌<◌, ◌+◌, ◌*◌, set, take, replicate, ◌++◌, map};
 ghost use Rattle.rules.specs.Bits.{digits, to_edge};
 ghost use Rattle.rules.specs.Words.{mod_z};

@@ -1,4 +1,6 @@
 // One channel of a packet: its samples and their residuals, side by side in scratch, then its Rice data.
+#![tactic(auto)]
+
 ghost use Rattle.std.specs.Prelude.{◌≡◌, ◌++◌, reverse, ◌-◌, ◌≤◌, pos, take, replicate};
 ghost use Rattle.rules.specs.Stream.{factor};
 ghost use Rattle.rules.specs.Writer.{written_bits, rice_code};

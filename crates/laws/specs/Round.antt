@@ -88,7 +88,7 @@ module _ {A B : Type 0} {bits : List ℕ} (read : Read B) (write : A → List �
   times_back {p} (one {x = x} {xs = xs} g gs) at =
       let w : List ℕ = write x in
       let ws : List ℕ = joined (map write xs) in
-      rw (back x p g (at_first w ws at), times_back gs (at_next w ws at))
+      rw (back x p g (at_first w ws at), times_back {p = p + length (write x)} gs (at_next w ws at))
       (ap (got (value x ∷ map value xs)) (omega (arith, length-append w ws)))
 
 abbrev coef_bits : ℤ → List ℕ
@@ -195,7 +195,7 @@ module _ (bits : List ℕ) (s : StreamInfo) (n b : ℕ) (kb_ge : 8 ≤ s.kb) (b-
   channels_at {p} (c ∷ cs) e (one {x = xs} {xs = xss} l ls) (one f fs) at =
       let w : List ℕ = (channel_code s b c xs).bits in
       let ws : List ℕ = joined (map (λ c. c.bits) (pairs (channel_code s b) cs xss)) in
-      rw (channel_at c l f (at_first w ws at), channels_at cs (omega arith) ls fs (at_next w ws at))
+      rw (channel_at c l f (at_first w ws at), channels_at {p = p + length (channel_code s b c xs).bits} cs (omega arith) ls fs (at_next w ws at))
       (ap (got (heard s b c xs ∷ pairs (heard s b) cs xss)) (omega (arith, length-append w ws)))
 
 -- ---- the element

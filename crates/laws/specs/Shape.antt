@@ -12,7 +12,7 @@ use Rattle.rules.specs.declared.Refusal.{Refusal}
 use Rattle.rules.specs.declared.Refusal.TheVariants as refusal
 use Rattle.rules.specs.Answers.{Ans, got, bad, pick, bind, Read, times, each, check}
 use Rattle.rules.specs.Bits.{within, field}
-use Rattle.rules.specs.Words.{is_zero, signed}
+use Rattle.rules.specs.Words.{is_zero, signed, wrap, add32}
 use Rattle.rules.specs.Stream.{channel_bits}
 use Rattle.rules.specs.Buffers.{lanes, pairs}
 use Rattle.rules.specs.Symbol.{symbol}
@@ -92,7 +92,7 @@ summed-length b (x ∷ xs) = ap suc (from x xs)
   where
     from : (last : ℤ) (es : List ℤ) → length (summed_from b last es) ≡ length es
     from last [] = refl
-    from last (e ∷ es) = ap suc (from _ es)
+    from last (e ∷ es) = ap suc (from (wrap b (add32 last e)) es)
 
 pick-length : (t : Bool) {n : ℕ} (xs ys : List ℤ) → length xs ≡ n → length ys ≡ n → length (pick t xs ys) ≡ n
 pick-length true xs ys h g = h

@@ -14,14 +14,14 @@ ones_at : {bits : List ℕ} {p : ℕ} (n q : ℕ) → q < n → At bits p (repli
 unfolding ones bind
 ones_at zero q h a = absurd (omega arith)
 ones_at (suc n) zero h a = rw (field_bit 0 a)
-ones_at (suc n) (suc q) h a =
-    rw (field_bit 1 (at_first (1 ∷ []) _ a), ones_at n q (omega arith) (at_next (1 ∷ []) _ a)) (ap (got (suc q)) (omega arith))
+ones_at {p = p} (suc n) (suc q) h a =
+    rw (field_bit 1 (at_first (1 ∷ []) _ a), ones_at {p = p + length {A = ℕ} (1 ∷ [])} n q (omega arith) (at_next (1 ∷ []) _ a)) (ap (got (suc q)) (omega arith))
 
 ones_full : {bits : List ℕ} {p : ℕ} (n : ℕ) → At bits p (replicate n 1) → ones bits n p ≡ got n (p + n)
 unfolding ones bind
 ones_full zero a = ap (got 0) (omega arith)
-ones_full (suc n) a =
-    rw (field_bit 1 (at_first (1 ∷ []) _ a), ones_full n (at_next (1 ∷ []) _ a)) (ap (got (suc n)) (omega arith))
+ones_full {p = p} (suc n) a =
+    rw (field_bit 1 (at_first (1 ∷ []) _ a), ones_full {p = p + length {A = ℕ} (1 ∷ [])} n (at_next (1 ∷ []) _ a)) (ap (got (suc n)) (omega arith))
 
 -- ---- the rest
 

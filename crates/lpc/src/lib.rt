@@ -1,4 +1,6 @@
 // Prediction: samples in the place of residuals, and the residuals that it undoes. Samples and coefficients are oldest first.
+#![tactic(auto)]
+
 ghost use Rattle.std.specs.Prelude.{◌≡◌, ◌+◌, pos, length, take, get_or};
 ghost use Rattle.rules.specs.Words.{mul32, sign};
 ghost use Rattle.rules.specs.Prediction.{weighed, guess, error_left, adapted, forecast, coefs_after, summed};

@@ -1,4 +1,6 @@
 // Mixing, both ways: the reader's unmixing and extra bits, and the writer's mix.
+#![tactic(auto)]
+
 ghost use Rattle.std.specs.Prelude.{◌≡◌, ◌*◌, ◌<◌, drop, length, get_or, []};
 ghost use Rattle.rules.specs.Bits.{bit_of, bits_of};
 ghost use Rattle.rules.specs.Buffers.{lanes, pairs, lane};

@@ -1,4 +1,6 @@
 // Document 01's readings taken at the bench: each is run and compared with what the paper says.
+#![tactic(auto)]
+
 mod bits;
 mod cookies;
 mod reader;

@@ -1,4 +1,6 @@
 // The original's answers held against ours. Standard input is the list that `oracle record` writes.
+#![tactic(auto)]
+
 mod answers;
 mod cases;
 mod report;

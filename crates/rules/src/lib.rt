@@ -1,9 +1,11 @@
 // The words of the codec: what its functions take and what they answer. What they mean is document 01, in specs/.
+#![tactic(auto)]
+
 ghost use Rattle.std.specs.Prelude.{◌≡◌};
 ghost use Rattle.rules.specs.Refusals.{number};
 
 // The fields of a stream, in the cookie's order.
-#[derive(Drop)]
+#[derive(Clone, Copy)]
 pub struct StreamInfo {
     pub frame_length: u32,
     pub compatible_version: u8,
@@ -19,14 +21,14 @@ pub struct StreamInfo {
 }
 
 // A byte of the packet and a bit in it. Only the last three bits of `bit` count, so every value is a place.
-#[derive(Drop)]
+#[derive(Clone, Copy)]
 pub struct Place {
     pub byte: usize,
     pub bit: u32,
 }
 
 // Why a dock is told no: a variant for each number of the table, in its order.
-#[derive(Drop)]
+#[derive(Clone, Copy)]
 pub enum Refusal {
     Cookie,
     Stream,
@@ -52,35 +54,35 @@ pub enum Refusal {
 }
 
 // A cookie's answer: a refused cookie gives no StreamInfo.
-#[derive(Drop)]
+#[derive(Clone, Copy)]
 pub enum CookieAnswer {
     Info(StreamInfo),
     Refused(Refusal),
 }
 
 // The reader's answer: how many samples, or why not, and the place.
-#[derive(Drop)]
+#[derive(Clone, Copy)]
 pub enum Answer {
     Accepted(usize, Place),
     Refused(Refusal, Place),
 }
 
 // The writer's answer: the packet's bytes, or why not.
-#[derive(Drop)]
+#[derive(Clone, Copy)]
 pub enum Packed {
     Accepted(usize),
     Refused(Refusal),
 }
 
 // The sample number that a packet's elements agree on, once there is one.
-#[derive(Drop)]
+#[derive(Clone, Copy)]
 pub enum Samples {
     Open,
     Known(u32),
 }
 
 // The writer's settings for one channel; coefficients are newest sample's first, as in the packet.
-#[derive(Drop)]
+#[derive(Clone, Copy)]
 pub struct ChannelSettings {
     pub pb_factor: u32,
     pub quant: u32,
@@ -89,7 +91,7 @@ pub struct ChannelSettings {
 }
 
 // With one channel `second` is not there: it is neither judged nor used.
-#[derive(Drop)]
+#[derive(Clone, Copy)]
 pub struct PackingSettings {
     pub mix_bits: u32,
     pub mix_res: u32,

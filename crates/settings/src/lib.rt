@@ -1,4 +1,6 @@
 // The writer's settings, from the flat form in which another language hands them over.
+#![tactic(auto)]
+
 ghost use Rattle.std.specs.Prelude.{◌≡◌, ◌≤◌, ◌<◌, length, take};
 ghost use Rattle.settings.specs.Flat.{field_at, channel_of, no_channel, unfit, with_second, settings_of};
 

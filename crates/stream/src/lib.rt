@@ -1,4 +1,6 @@
 // Which streams are accepted, the cookie, and the five getters.
+#![tactic(auto)]
+
 ghost use Rattle.std.specs.Prelude.{◌≡◌, ◌≤◌, length};
 ghost use Rattle.rules.specs.Stream.{i16_output, i32_output, max_samples_per_packet};
 ghost use Rattle.rules.specs.Cookie.{big_endian, past_atom, info_of, from_cookie};

@@ -1,4 +1,6 @@
 // The writer's settings as text: decimal numbers between blanks, with comments from '#' to the end of a line.
+#![tactic(auto)]
+
 ghost use Rattle.std.specs.Prelude.{◌≡◌};
 ghost use Rattle.text.specs.Text.{is_blank, kind_of, most_of, grown_to, between_of, comment_of, signed_of, digits_of, turn_of, signed_by, value_of, Takes, Tells};
 

@@ -12,6 +12,8 @@
 // 'walk: stopped after N packets: WHY'; what came before that place is written. Packets are counted from 1. A packet that is
 // refused is told with document 01's number, and unpack writes silence of a whole frame in its place. Where a reader of the output
 // stops early, the system ends the program without that line, unless SIGPIPE is ignored.
+#![tactic(auto)]
+
 mod files;
 mod packets;
 mod packing;

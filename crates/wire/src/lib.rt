@@ -1,4 +1,6 @@
 // The raw form in which packets and samples lie in a file: no container, only lengths and plain samples.
+#![tactic(auto)]
+
 ghost use Rattle.std.specs.Prelude.{◌≡◌, [], ◌∷◌, ◌+◌, ◌*◌, length};
 ghost use Rattle.rules.specs.Words.{signed};
 ghost use Rattle.wire.specs.Raw.{length_of, front_of, samples_of, bytes_of};

@@ -1,4 +1,6 @@
 // Words that wrap: sums, differences, products and shifts of signed integers, worked out at 64 bits and cut to the word.
+#![tactic(auto)]
+
 ghost use Rattle.std.specs.Prelude.{◌≡◌, ◌≤◌, ◌<◌, ◌^◌, pos, ◌+ℤ◌};
 ghost use Rattle.rules.specs.Words.{mod_z, signed, wrap, add32, sub32, mul32, shift_right, shift_left, sign, unfolded, folded};
 
