@@ -8,14 +8,14 @@ ghost use Rattle.bitcursor.specs.Reads.{Enough, Reads, Reaches};
 use rules::{Place, Refusal};
 
 // A value and the place after it, or the place where a short read began.
-#[derive(Drop)]
+#[derive(Clone, Copy)]
 pub enum Got {
     Value(u32, Place),
     Short(Place),
 }
 
 // The place that was reached, or why not, and where.
-#[derive(Drop)]
+#[derive(Clone, Copy)]
 pub enum Reached {
     At(Place),
     Refused(Refusal, Place),
