@@ -6,5 +6,6 @@ use Rattle.stream.proofs.read_be_u32.Goals as goal
 
 pub returns : goal.returns
 returns c =
-    let buf = c.args.buf.now in
-    omega (arith, bytes_whole buf 4 c.requires, bytes_add buf 0 2 2 (omega arith), c.read_be_u16.ensures, c.read_be_u16-2.ensures)
+    let start = c.before.before.before.before.before in
+    let buf = start.args.buf.now in
+    omega (arith, bytes_whole buf 4 start.requires, bytes_add buf 0 2 2 (omega arith), c.read_be_u16.ensures, c.read_be_u16-2.ensures)
