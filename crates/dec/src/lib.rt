@@ -18,14 +18,14 @@ use rules::{Answer, Place, Refusal, Samples, StreamInfo};
 use stream::{accepted, takes_i16, takes_i32};
 
 // The reader after an element: at the next one, or at the packet's answer.
-#[derive(Drop)]
+#[derive(Clone, Copy)]
 pub enum Step {
     More(State),
     Done(Answer),
 }
 
 // 2 and 3, judged before any bit is read.
-#[derive(Drop)]
+#[derive(Clone, Copy)]
 pub enum Judged {
     Fit,
     Unfit(Refusal),

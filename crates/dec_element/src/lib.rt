@@ -100,7 +100,7 @@ fn raw_samples(
 // ---- An audio element after its tag: decode_audio_element of dec.rs.
 
 // How many samples each channel has, and the place after them; or why not.
-#[derive(Drop)]
+#[derive(Clone, Copy)]
 pub enum Heard {
     Samples(u32, Place),
     Refused(Refusal, Place),

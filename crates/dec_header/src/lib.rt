@@ -12,14 +12,14 @@ use bitcursor::{Got, read, read_bit};
 use rules::{Place, Refusal, StreamInfo};
 
 // Shift code, uncompressed bit and sample number.
-#[derive(Drop)]
+#[derive(Clone, Copy)]
 pub struct Header {
     pub code: u32,
     pub raw: u32,
     pub samples: u32,
 }
 
-#[derive(Drop)]
+#[derive(Clone, Copy)]
 pub enum HeaderRead {
     Known(Header, Place),
     Refused(Refusal, Place),

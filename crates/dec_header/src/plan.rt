@@ -12,7 +12,7 @@ use rules::{Place, Refusal, StreamInfo};
 use words::coef_of;
 
 // A channel's parameters. The first `order` coefficients count, the oldest sample's first; the others are zero.
-#[derive(Drop)]
+#[derive(Clone, Copy)]
 pub struct Parameters {
     pub mode: u32,
     pub quant: u32,
@@ -22,7 +22,7 @@ pub struct Parameters {
 }
 
 // What a compressed element says before its Rice data. `mix_res` is its 8 bits; of one channel `second` is all zero.
-#[derive(Drop)]
+#[derive(Clone, Copy)]
 pub struct Plan {
     pub mix_bits: u32,
     pub mix_res: u32,
@@ -31,25 +31,25 @@ pub struct Plan {
 }
 
 // The plan, all zero where it is refused.
-#[derive(Drop)]
+#[derive(Clone, Copy)]
 pub struct PlanRead {
     pub answer: Reached,
     pub plan: Plan,
 }
 
-#[derive(Drop)]
+#[derive(Clone, Copy)]
 struct CoefsRead {
     answer: Reached,
     coefs: [i16; 32],
 }
 
-#[derive(Drop)]
+#[derive(Clone, Copy)]
 struct ParametersRead {
     answer: Reached,
     parameters: Parameters,
 }
 
-#[derive(Drop)]
+#[derive(Clone, Copy)]
 struct ChannelsRead {
     answer: Reached,
     first: Parameters,

@@ -98,7 +98,7 @@ fn fill_element(packet: &[u8], at: Place) -> Reached
 // ---- One element of a packet: all eight tags are decided here.
 
 // The reader between two elements.
-#[derive(Drop)]
+#[derive(Clone, Copy)]
 pub struct State {
     pub at: Place,
     pub channels: u32,
@@ -106,7 +106,7 @@ pub struct State {
 }
 
 // What an element came to: channels with their samples in scratch, nothing, the end with the sample number, or a refusal.
-#[derive(Drop)]
+#[derive(Clone, Copy)]
 pub enum Element {
     Audio(u32, u32, Place),
     Passed(Place),

@@ -15,7 +15,7 @@ use rules::{Place, Refusal};
 use words::unfold;
 
 // What a channel's Rice data is read with: the stream's kb, the channel's factor and its bits.
-#[derive(Drop)]
+#[derive(Clone, Copy)]
 pub struct Coding {
     pub kb: u32,
     pub factor: u32,
@@ -23,7 +23,7 @@ pub struct Coding {
 }
 
 // A sample's value, and what the next sample starts from.
-#[derive(Drop)]
+#[derive(Clone, Copy)]
 struct Step {
     value: u32,
     history: u32,
@@ -32,7 +32,7 @@ struct Step {
 }
 
 // A sample and the place after it, or why not, and where.
-#[derive(Drop)]
+#[derive(Clone, Copy)]
 enum Took {
     Sample(Step, Place),
     Refused(Refusal, Place),

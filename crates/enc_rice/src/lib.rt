@@ -12,14 +12,14 @@ use enc_bits::{Sink, pow2, put};
 use words::fold;
 
 // The last `len` bits of `bits`.
-#[derive(Drop)]
+#[derive(Clone, Copy)]
 struct Code {
     bits: u64,
     len: u32,
 }
 
 // The codes of a sample and of the run after it, and what the next turn starts from: the sample, the history and the +1.
-#[derive(Drop)]
+#[derive(Clone, Copy)]
 struct Step {
     symbol: Code,
     run: Code,

@@ -7,7 +7,7 @@ ghost use Rattle.text.specs.Text.{is_blank, kind_of, most_of, grown_to, between_
 use words::low_i16;
 
 // What a byte of the text is.
-#[derive(Drop)]
+#[derive(Clone, Copy)]
 pub enum Kind {
     Digit(u32),
     Dash,
@@ -18,7 +18,7 @@ pub enum Kind {
 }
 
 // Where the reader stands: inside a number it has the sign (true: below zero) and the size so far.
-#[derive(Drop)]
+#[derive(Clone, Copy)]
 pub enum Mode {
     Between,
     Comment,
@@ -27,7 +27,7 @@ pub enum Mode {
 }
 
 // What a byte does: the reader goes on, or a number has ended before it, or the byte cannot stand there.
-#[derive(Drop)]
+#[derive(Clone, Copy)]
 pub enum Turn {
     On(Mode),
     Stores(Mode),
@@ -35,7 +35,7 @@ pub enum Turn {
 }
 
 // A turn carried out: how many numbers there are now, or why the reader stops.
-#[derive(Drop)]
+#[derive(Clone, Copy)]
 pub enum Took {
     More(Mode, usize),
     Bad,
@@ -43,7 +43,7 @@ pub enum Took {
 }
 
 // How many numbers the text holds, or the byte at which it is wrong, or that there is no room for all.
-#[derive(Drop)]
+#[derive(Clone, Copy)]
 pub enum Numbers {
     Many(usize),
     Wrong(usize),

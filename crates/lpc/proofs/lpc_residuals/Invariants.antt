@@ -1,0 +1,16 @@
+-- The residuals so far, and what the rules make of the rest from here, are the whole.
+use Prim.Native.Nat.{◌-◌}
+use native.Mathlib.Omega.{arith}
+use mathlib.Core.Path.{◌≡◌, refl}
+use lib.ListN.{length, length-set}
+use Rattle.words.proofs.Laws.{held32}
+use Rattle.lpc.proofs.Residuals.{Leaving, leaving_start, leaving_next, leaving_done}
+use borrow.Author.Rules.{rules}
+use Rattle.lpc.proofs.lpc_residuals.Given as goal
+
+abbrev pub invariant-loop-i : goal.invariant-loop-i
+invariant-loop-i l =
+    (length l.buf ≡ length l.initial.buf) × (length l.lpc_coefs ≡ length l.initial.lpc_coefs) × Leaving l.bps l.lpc_quant l.n l.initial.lpc_coefs l.initial.buf l.i l.lpc_coefs l.buf
+
+abbrev pub decreases-loop-i : goal.decreases-loop-i
+decreases-loop-i l = l.n - l.i
