@@ -1,5 +1,5 @@
 -- `after_run` meets its contract: its symbol is the rules', and a law for each return.
-use Rattle.std.proofs.Common.{◌-◌, ◌^◌, ◌≤◌, arith, pow_mono, rules}
+use Rattle.std.proofs.Common.{◌^◌, ◌≤◌, arith, pow_mono}
 use lib.Bits.{and_le_l}
 use Rattle.rules.specs.Bits.{bit_of, bits_of}
 use Rattle.rules.specs.Symbol.{symbol}

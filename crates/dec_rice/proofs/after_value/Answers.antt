@@ -1,5 +1,5 @@
 -- `after_value` meets its contract: a run follows or none does.
-use Rattle.std.proofs.Common.{⊎_elim, rules, le-ltb, lt-ltb}
+use Rattle.std.proofs.Common.{⊎_elim, le-ltb, lt-ltb}
 use Rattle.dec_rice.proofs.Samples.{value_run, value_alone}
 use Rattle.dec_rice.proofs.after_value.Goals as goal
 
@@ -13,4 +13,4 @@ pub returns : goal.returns
 returns c =
     let a = c.args in
     value_alone _ a.c.factor a.c.kb a.c.bits a.h a.left a.v c.next_history-next.ensures c.requires.coded.factor_le c.requires.history_lt c.requires.plain
-    (⊎_elim (λ w. rw (lt-ltb 0 a.left w.0.taken) w.1.left) (λ w. rw (le-ltb 0 a.left w.left)) c.else-left-gt0.branch)
+    (⊎_elim (λ w. rw (lt-ltb 0 a.left w.0, le-ltb c.next_history-next.result 128 w.1)) (λ w. rw (le-ltb 0 a.left w)) c.else-left-gt0.either)

@@ -1,5 +1,5 @@
 -- `count_ones` meets its contract. The loop's invariant: the ones counted and those to come are the ones from the start.
-use Rattle.std.proofs.Common.{◌≡◌, ◌-◌, ◌%◌, ◌<◌, ◌≤◌, sym, ◌∙◌, arith, rules}
+use Rattle.std.proofs.Common.{◌≡◌, ◌%◌, sym, ◌∙◌, arith}
 use Rattle.rules.specs.Bits.{bit_of, bits_of}
 use Rattle.rules.specs.Symbol.{ones}
 use Rattle.bitcursor.specs.Reads.{told, Plain}

@@ -1,10 +1,8 @@
 -- `count_ones` meets its contract. The loop's invariant: the ones counted and those to come are the ones from the start.
-use Rattle.std.proofs.Common.{◌≡◌, ◌-◌, ◌%◌, ◌<◌, ◌≤◌, sym, ◌∙◌, arith, rules}
+use Rattle.std.proofs.Common.{◌≡◌, ◌-◌, ◌<◌, ◌≤◌}
 use Rattle.rules.specs.Bits.{bit_of, bits_of}
 use Rattle.rules.specs.Symbol.{ones}
-use Rattle.bitcursor.specs.Reads.{told, Plain}
-use Rattle.bitcursor.proofs.Laws.{plain_of}
-use Rattle.dec_rice.proofs.Symbols.{ones_from, ones-start, ones_full, ones_cut, ones_end, ones-next}
+use Rattle.dec_rice.proofs.Symbols.{ones_from}
 use Rattle.dec_rice.proofs.count_ones.Given as goal
 
 abbrev pub invariant-loop-q : goal.invariant-loop-q

@@ -1,5 +1,5 @@
 -- `next_history` meets its contract: both products fit a word, and less is taken away than there is.
-use Rattle.std.proofs.Common.{◌*◌, ◌≤◌, mul-le-mul, mul-le-mul_left, arith, le-ltb, lt-ltb}
+use Rattle.std.proofs.Common.{le-ltb, lt-ltb}
 use Rattle.rules.specs.Rice.{history_after}
 use Rattle.dec_rice.proofs.next_history.Goals as goal
 

@@ -1,5 +1,5 @@
 -- `next_sample` meets its contract: its symbol is the rules', and a law for each return.
-use Rattle.std.proofs.Common.{◌^◌, ◌≤◌, arith, pow_pos, pow_mono, rules}
+use Rattle.std.proofs.Common.{◌^◌, ◌≤◌, arith, pow_pos, pow_mono}
 use Rattle.rules.specs.Bits.{bit_of, bits_of}
 use Rattle.rules.specs.Symbol.{symbol}
 use Rattle.rules.specs.Rice.{symbol_k, symbol_m}
@@ -44,4 +44,4 @@ returns c =
     let read : let a = c.args in
     Reads (symbol (bits_of a.packet.now) (symbol_k a.c.kb a.h) (symbol_m (symbol_k a.c.kb a.h)) a.c.bits (bit_of a.at)) c.decode_rice_symbol-got.result = rw (c.symbol_m.ensures, c.symbol_k-k.ensures) at c.decode_rice_symbol-got.ensures in
     let a = c.args in
-    sample_on _ a.c.factor a.c.kb a.c.bits a.h a.plus a.left read c.in-Value.is c.wrapping_add_u32.ensures c.after_value.ensures
+    sample_on _ a.c.factor a.c.kb a.c.bits a.h a.plus a.left read c.in-Value.is c.wrapping_add_u32.ensures.value c.after_value.ensures

@@ -1,5 +1,5 @@
 -- `place_of` meets its contract.
-use Rattle.std.proofs.Common.{sym, ap, rules}
+use Rattle.std.proofs.Common.{sym, ap}
 use Rattle.dec_rice.specs.Steps.{place_in}
 use Rattle.dec_rice.proofs.place_of.Goals as goal
 

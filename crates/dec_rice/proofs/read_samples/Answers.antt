@@ -1,12 +1,13 @@
 -- `read_samples` meets its contract. The loop's invariant is `Going`: what is done, and what the rules read from here, is the whole.
-use Rattle.std.proofs.Common.{◌≡◌, ◌-◌, ◌%◌, length, ◌∙◌, ⊎_elim, arith, rules}
+use Rattle.std.proofs.Common.{◌≡◌, ◌%◌, length, ◌∙◌, arith}
 use Rattle.rules.specs.Bits.{bit_of, bits_of}
 use Rattle.rules.specs.Symbol.{symbol}
 use Rattle.rules.specs.Rice.{rice}
 use Rattle.words.proofs.Laws.{held32}
 use Rattle.dec_rice.specs.Steps.{residuals_of}
-use Rattle.dec_rice.proofs.Loop.{Going, going_start, going_zero, going_next, going_cut, going_end}
+use Rattle.dec_rice.proofs.Loop.{Going, going_zero, going_next, going_cut, going_end}
 use Rattle.dec_rice.proofs.read_samples.Goals as goal
+use Rattle.dec_rice.proofs.read_samples.Goals.{then-owed-gt0, else-owed-gt0+in-Sample}
 
 pub returns-in-Refused : goal.returns-in-Refused
 returns-in-Refused c =
@@ -22,12 +23,14 @@ returns-in-Refused c =
 pub loop-i-preserved : goal.loop-i-preserved
 loop-i-preserved c =
     let l = c.loop-i-test.true in
-    ⊎_elim
-    (λ w. rw (w.1, w.2, w.3, w.4, w.5) (going_zero _ _ _ _ _ _ c.loop-i.invariant l w.0.taken))
-    (λ w. rw (w.6, w.7, w.8, w.9, w.10)
-    (going_next _ _ _ _ _ _ c.loop-i.invariant l w.0.left (omega (arith, c.loop-i.invariant.same)) w.1.ensures w.3.given.1
-    (held32 w.5.result w.5.ok ∙ w.5.ensures)))
-    c.if-owed-gt0.branch
+    elim c.if-owed-gt0.branch [
+      | then-owed-gt0 w ↦
+          rw (w.buf-is, w.at-is, w.history-is, w.plus-is, w.owed-is) (going_zero _ _ _ _ _ _ c.loop-i.invariant l w.if-owed-gt0.true)
+      | else-owed-gt0+in-Sample w ↦
+          rw (w.buf-is, w.at-is, w.history-is, w.plus-is, w.owed-is)
+          (going_next _ _ _ _ _ _ c.loop-i.invariant l w.if-owed-gt0.false (omega (arith, c.loop-i.invariant.same)) w.next_sample-took.ensures w.in-Sample.is
+          (held32 w.unfold.result w.unfold.type_inv ∙ w.unfold.ensures))
+    ]
 
 pub returns : goal.returns
 returns c =

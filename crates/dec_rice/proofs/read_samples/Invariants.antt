@@ -1,11 +1,10 @@
 -- `read_samples` meets its contract. The loop's invariant is `Going`: what is done, and what the rules read from here, is the whole.
-use Rattle.std.proofs.Common.{◌≡◌, ◌-◌, ◌%◌, length, ◌∙◌, ⊎_elim, arith, rules}
+use Rattle.std.proofs.Common.{◌-◌, length}
 use Rattle.rules.specs.Bits.{bit_of, bits_of}
 use Rattle.rules.specs.Symbol.{symbol}
 use Rattle.rules.specs.Rice.{rice}
-use Rattle.words.proofs.Laws.{held32}
 use Rattle.dec_rice.specs.Steps.{residuals_of}
-use Rattle.dec_rice.proofs.Loop.{Going, going_start, going_zero, going_next, going_cut, going_end}
+use Rattle.dec_rice.proofs.Loop.{Going}
 use Rattle.dec_rice.proofs.read_samples.Given as goal
 
 abbrev pub invariant-loop-i : goal.invariant-loop-i

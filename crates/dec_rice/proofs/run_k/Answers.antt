@@ -1,7 +1,6 @@
 -- `run_k` meets its contract: a history below 128 has 24 leading zeros or more.
-use Rattle.std.proofs.Common.{refl, arith, rules}
+use Rattle.std.proofs.Common.{refl}
 use Rattle.rules.specs.Rice.{run_k}
-use Rattle.laws.specs.Rice.{run_k_range}
 use Rattle.dec_rice.proofs.Symbols.{leading_small}
 use Rattle.dec_rice.proofs.run_k.Goals as goal
 

@@ -1,6 +1,5 @@
 -- `symbol_k` meets its contract: a number above 0 has 31 leading zeros or fewer.
-use Rattle.std.proofs.Common.{◌+◌, ◌/◌, arith, rules}
-use lib.Count.{leading_top}
+use Rattle.std.proofs.Common.{arith}
 use Rattle.rules.specs.Words.{log2}
 use Rattle.rules.specs.Rice.{symbol_k}
 use Rattle.dec_rice.proofs.symbol_k.Goals as goal
