@@ -14,7 +14,7 @@ use words::bits16_of;
 // ---- Bits out into lent bytes: whole bytes are stored, fewer than eight bits wait.
 
 // `at` bytes are out, of which those past the buffer's end are lost; the last `count` bits of `pending` wait.
-#[derive(Drop)]
+#[derive(Clone, Copy)]
 pub struct Sink {
     pub at: usize,
     pub pending: u64,

@@ -1,0 +1,12 @@
+-- `put_rice` meets its contract: what went out and the rules from here on are the rules from the start.
+use Prim.Native.Nat.{◌-◌}
+use native.Mathlib.Omega.{arith}
+use lib.ListN.{length}
+use Rattle.enc_rice.proofs.Turns.{Going, going_start, going_turns, going_puts, going_next, going_done}
+use Rattle.enc_rice.proofs.put_rice.Given as goal
+
+abbrev pub invariant-loop-i : goal.invariant-loop-i
+invariant-loop-i l = Going l.c l.residuals l.mb l.initial.bytes l.bytes l.initial.out l.out l.history l.plus l.i
+
+abbrev pub decreases-loop-i : goal.decreases-loop-i
+decreases-loop-i l = length l.residuals - l.i
