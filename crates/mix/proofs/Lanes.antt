@@ -15,7 +15,7 @@ up_to_at : {A : Type 0} (f : ℕ → A) (z : A) (n j : ℕ) → j < n → get_or
 unfolding up_to
 up_to_at f z zero j h = absurd (omega arith)
 up_to_at f z (suc n) zero h = refl
-up_to_at f z (suc n) (suc j) h = rw map-map (up_to_at (λ k. f (suc k)) z n j (omega arith))
+up_to_at f z (suc n) (suc j) h = rw (map-map f suc) (up_to_at (λ k. f (suc k)) z n j (omega arith))
 
 pub lanes_at : (c j : ℕ) (xs : List ℤ) → j < c → get_or (lanes c xs) j [] ≡ lane c xs j
 lanes_at c j xs h = up_to_at (lane c xs) [] c j h

@@ -1,7 +1,6 @@
 -- The bits are there, so the read is never short, and the sample takes them in.
 use mathlib.Core.Path.{◌∙◌}
 use native.Mathlib.Omega.{arith}
-use borrow.Author.Rules.{rules}
 use lib.ListN.{get_or}
 use lib.IntN.{pos}
 use Rattle.rules.specs.Bits.{bit_of, bits_of}
@@ -18,4 +17,4 @@ returns c =
     let a = c.args in
     let x = get_or a.scratch.now a.k (pos 0) in
     takes_in (bits_of a.packet.now) a.shift (bit_of a.at) c.read-got.ensures a.k a.scratch.now c.in-Value.is
-    (held32 c.extend-sample.result c.extend-sample.type_inv ∙ (rw (held32 x c.extend-arg-1.given) at c.extend-sample.ensures))
+    (held32 c.extend-sample.result c.extend-sample.type_inv ∙ (rw (held32 x (omega arith)) at c.extend-sample.ensures))

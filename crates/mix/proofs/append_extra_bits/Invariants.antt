@@ -1,11 +1,7 @@
 -- Each turn reads the extra bits of one sample of each channel; what is done and what the rule makes of the rest is what it makes of all.
 use Prim.Native.Nat.{◌-◌}
-use mathlib.Core.Logic.{⊎_elim}
-use native.Mathlib.Omega.{arith}
-use borrow.Author.Rules.{rules}
-use lib.ListN.{length-set}
 use Rattle.rules.specs.Bits.{bit_of, bits_of}
-use Rattle.mix.proofs.ScratchTurns.{Appending, appending_start, first_there, second_there, appending_one, appending_two, appending_done}
+use Rattle.mix.proofs.ScratchTurns.{Appending}
 use Rattle.mix.proofs.append_extra_bits.Given as goal
 
 abbrev pub invariant-loop-i : goal.invariant-loop-i

@@ -1,13 +1,7 @@
 -- What is copied and what is left of the lane make the lane.
-use Prim.Native.Nat.{ℕ, ◌+◌, ◌-◌, ◌*◌, ◌<◌}
-use native.Mathlib.Omega.{arith}
-use borrow.Author.Rules.{rules}
-use lib.ListN.{length, get_or}
-use lib.IntN.{ℤ, pos}
-use mir.Syntax.{w16, w32}
+use Prim.Native.Nat.{◌-◌}
 use Rattle.rules.specs.Buffers.{lane}
-use Rattle.words.proofs.Laws.{wide, wide_fits}
-use Rattle.mix.proofs.PassageTurns.{Filling, filling_start, filling_next, filling_done, lane_from, lane-start, lane_inside, lane-next, lane_end}
+use Rattle.mix.proofs.PassageTurns.{Filling, lane_from}
 use Rattle.mix.proofs.copy_lane.Given as goal
 
 abbrev pub invariant-loop-i : goal.invariant-loop-i

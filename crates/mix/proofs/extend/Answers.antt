@@ -1,6 +1,5 @@
 -- The shifted sample and the extra bits are wrapped once more when they are summed, which changes nothing.
 use Prim.Native.Nat.{◌^◌}
-use borrow.Author.Rules.{rules}
 use lib.Dec.{lit≤}
 use lib.IntN.{pos, ◌*ℤ◌}
 use Rattle.rules.specs.Words.{wrap}
@@ -16,7 +15,7 @@ returns c =
     let extra = pos c.args.extra in
     cc (
       held32 c.wrapping_add_i32.result c.wrapping_add_i32.type_inv,
-      held32 c.number_of_lem.result c.number_of_lem.type_inv,
+      held32 c.number_of-low.result c.number_of-low.type_inv,
       held32 c.shift_up-high.result c.shift_up-high.type_inv,
       held32 c.args.x c.ranges.x.sfits,
       wrap_in_l 32 32 x (wrap 32 extra) (lit≤ tt),

@@ -1,7 +1,6 @@
 -- Where there are no extra bits the samples stay.
 use mathlib.Core.Path.{sym}
 use Prim.Native.Nat.{◌*◌}
-use borrow.Author.Rules.{rules}
 use lib.ListN.{drop}
 use Rattle.rules.specs.Bits.{bit_of, bits_of}
 use Rattle.rules.specs.Element.{numbers}

@@ -1,7 +1,6 @@
 -- What is unmixed lies in scratch as the extra bits find it.
 use Prim.Native.Nat.{◌*◌}
 use mathlib.Core.Path.{◌∙◌}
-use borrow.Author.Rules.{rules}
 use lib.ListN.{drop}
 use Rattle.rules.specs.Bits.{bit_of, bits_of}
 use Rattle.rules.specs.Words.{signed}

@@ -2,7 +2,6 @@
 use Prim.Native.Nat.{suc, ◌-◌}
 use mathlib.Core.Path.{◌≡◌}
 use native.Mathlib.Omega.{arith}
-use borrow.Author.Rules.{rules}
 use Rattle.words.proofs.Laws.{held32}
 use Rattle.mix.specs.Mixable.{mixed_sample}
 use Rattle.mix.proofs.mix_pair.Goals as goal

@@ -1,5 +1,4 @@
 -- The code has the rule's own terms.
-use borrow.Author.Rules.{rules}
 use Rattle.rules.specs.Mix.{share, right_of}
 use Rattle.words.proofs.Laws.{held32}
 use Rattle.mix.proofs.right_of.Goals as goal

@@ -1,7 +1,6 @@
 -- One channel and mix_res 0 stay; otherwise the rule unmixes a pair.
 use mathlib.Core.Path.{◌≡◌, sym, ap, ◌∙◌}
 use native.Mathlib.Omega.{arith}
-use borrow.Author.Rules.{rules}
 use mir.Syntax.{w32}
 use mir.Val.{to_z, of_z}
 use mir.ValLaws.{to_z_pos}
