@@ -1,6 +1,5 @@
 -- By the rule's three cases.
 use mathlib.Core.Path.{sym}
-use borrow.Author.Rules.{rules}
 use Rattle.words.proofs.Laws.{held32, zero_bits, nonzero_bits}
 use Rattle.lpc.proofs.Steps.{mean_at, coefs_early, coefs_exact, coefs_late}
 use Rattle.lpc.proofs.adapt_at.Goals as goal

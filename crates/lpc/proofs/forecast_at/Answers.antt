@@ -2,7 +2,6 @@
 use mathlib.Core.Path.{sym, ◌∙◌}
 use Rattle.words.proofs.Laws.{held32}
 use Rattle.lpc.proofs.Steps.{mean_at, forecast_early, forecast_late}
-use borrow.Author.Rules.{rules}
 use Rattle.lpc.proofs.forecast_at.Goals as goal
 
 pub returns-then-i-lpc_order : goal.returns-then-i-lpc_order

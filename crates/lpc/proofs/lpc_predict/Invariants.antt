@@ -1,18 +1,8 @@
 -- The samples so far, and what the rules make of the rest from here, are the whole.
 use Prim.Native.Nat.{◌≤◌, ◌-◌}
-use native.Mathlib.Omega.{arith}
-use native.Mathlib.Nat.{le_refl}
-use mathlib.Core.Path.{◌≡◌, refl, sym, ◌∙◌}
-use lib.ListN.{length, get_or, take, length-set}
-use lib.Seq.{take-set-le}
-use lib.IntN.{pos}
-use mir.Syntax.{w32}
-use mir.Val.{to_z, of_z}
-use Rattle.rules.specs.Words.{add32}
-use Rattle.rules.specs.Prediction.{forecast, next}
-use Rattle.words.proofs.Laws.{held32}
-use Rattle.lpc.proofs.Steps.{next-later, Going, going_start, going_next, going_done}
-use borrow.Author.Rules.{rules}
+use mathlib.Core.Path.{◌≡◌}
+use lib.ListN.{length}
+use Rattle.lpc.proofs.Steps.{Going}
 use Rattle.lpc.proofs.lpc_predict.Given as goal
 
 abbrev pub invariant-loop-i : goal.invariant-loop-i

@@ -1,16 +1,13 @@
 -- The sums so far, and what the rule makes of the rest, are the whole.
-use Prim.Native.Nat.{◌≤◌, ◌-◌}
+use Prim.Native.Nat.{◌-◌}
 use mathlib.Core.Path.{◌≡◌, refl, sym, ◌∙◌}
-use mathlib.Core.List.{◌++◌}
 use native.Mathlib.Omega.{arith}
-use borrow.Author.Rules.{rules}
-use lib.ListN.{length, get_or, take, drop, length-set}
+use lib.ListN.{get_or, length-set}
 use lib.IntN.{pos}
 use Rattle.rules.specs.Words.{wrap, add32}
 use mir.Syntax.{w32}
 use mir.Val.{to_z, of_z}
 use Rattle.words.proofs.Laws.{held32}
-use Rattle.rules.specs.Prediction.{summed, summed_from}
 use Rattle.lpc.proofs.Steps.{summed-start, summed_on, summed_end}
 use Rattle.lpc.proofs.lpc_predict_order_31.Goals as goal
 

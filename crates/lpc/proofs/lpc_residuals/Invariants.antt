@@ -1,11 +1,8 @@
 -- The residuals so far, and what the rules make of the rest from here, are the whole.
 use Prim.Native.Nat.{◌-◌}
-use native.Mathlib.Omega.{arith}
-use mathlib.Core.Path.{◌≡◌, refl}
-use lib.ListN.{length, length-set}
-use Rattle.words.proofs.Laws.{held32}
-use Rattle.lpc.proofs.Residuals.{Leaving, leaving_start, leaving_next, leaving_done}
-use borrow.Author.Rules.{rules}
+use mathlib.Core.Path.{◌≡◌}
+use lib.ListN.{length}
+use Rattle.lpc.proofs.Residuals.{Leaving}
 use Rattle.lpc.proofs.lpc_residuals.Given as goal
 
 abbrev pub invariant-loop-i : goal.invariant-loop-i

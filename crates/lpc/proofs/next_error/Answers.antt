@@ -9,7 +9,6 @@ use mir.Facts.{to_z_pos}
 use Rattle.words.proofs.Laws.{held32}
 use Rattle.rules.specs.Words.{mul32, shift_right}
 use Rattle.rules.specs.Prediction.{error_left}
-use borrow.Author.Rules.{rules}
 use Rattle.lpc.proofs.next_error.Goals as goal
 
 pub returns : goal.returns
@@ -29,6 +28,6 @@ returns c =
     ∙ (rw (h-is, held32 s c.ranges.error_sign.sfits) at c.wrapping_mul_i32-signed.ensures) in
     let n-is : to_z w32 (of_z w32 c.wrapping_mul_i32-loss.result) ≡ mul32 (mul32 s loss) (pos (c.args.j + 1)) =
     held32 c.wrapping_mul_i32-loss.result c.wrapping_mul_i32-loss.type_inv
-    ∙ (rw (g-is, to_z_pos w32 {c = c.args.j + 1} (omega arith)) at c.wrapping_mul_i32-loss.ensures) in
+    ∙ (rw (g-is, to_z_pos w32 {n = c.args.j + 1} (omega arith)) at c.wrapping_mul_i32-loss.ensures) in
     held32 c.wrapping_sub_i32.result c.wrapping_sub_i32.type_inv
     ∙ (rw (n-is, held32 c.args.error c.ranges.error.sfits) at c.wrapping_sub_i32.ensures)
