@@ -22,14 +22,13 @@ returns-in_default c =
 pub returns-in_default-read : goal.returns-in_default-read
 unfolding header bind told_header SaneHeader
 returns-in_default-read c =
-    let v = c.at_unused-1.given in
     record {
       tells = rw (
         ← c.plain-start.ensures.same,
-        value_of c.read.ensures v.1,
-        cut_of _ 12 (bit_of v.0.1.0) c.read-2.ensures c.in_default-read.is,
+        value_of c.read.ensures c.in-Value.is,
+        cut_of _ 12 (bit_of c.in-Value.at_unused) c.read-2.ensures c.in_default-read.is,
       );
-      sane = plain_of c.read.ensures v.1;
+      sane = plain_of c.read.ensures c.in-Value.is;
     }
 
 pub returns-then-unused-ne0 : goal.returns-then-unused-ne0

@@ -30,22 +30,20 @@ pub returns-then-samples-s : goal.returns-then-samples-s
 unfolding bind answered told_header SaneHeader
 returns-then-samples-s c =
     let a = c.args in
-    let v = c.samples-1.given in
     let r = c.read.ensures in
     let n = number_partial (bits_of a.packet.now) a.s a.partial (bit_of a.at) c.if-partial-eq0.false in
     record {
-      tells = rw (n, value_of r v.1, lt-leb v.0.0 a.s.frame_length c.if-samples-s.true);
-      sane = plain_of r v.1;
+      tells = rw (n, value_of r c.in-Value.is, lt-leb c.in-Value.samples a.s.frame_length c.if-samples-s.true);
+      sane = plain_of r c.in-Value.is;
     }
 
 pub returns : goal.returns
 unfolding bind answered told_header SaneHeader
 returns c =
     let a = c.args in
-    let v = c.samples-1.given in
     let r = c.read.ensures in
     let n = number_partial (bits_of a.packet.now) a.s a.partial (bit_of a.at) c.if-partial-eq0.false in
     record {
-      tells = rw (n, value_of r v.1, le-leb v.0.0 a.s.frame_length c.if-samples-s.false);
-      sane = (plain_of r v.1, c.requires.code_le, c.if-samples-s.false);
+      tells = rw (n, value_of r c.in-Value.is, le-leb c.in-Value.samples a.s.frame_length c.if-samples-s.false);
+      sane = (plain_of r c.in-Value.is, c.requires.code_le, c.if-samples-s.false);
     }

@@ -12,10 +12,10 @@ pub returns-then-mix_res-eq0 : goal.returns-then-mix_res-eq0
 unfolding mix_ok
 returns-then-mix_res-eq0 c =
     let a = c.args in
-    rw (ne_eqb a.channels 1 c.if-channels-eq1.false, signed_zero 8 a.mix-res, c.if-mix_res-eq0.true)
+    rw (ne_eqb a.channels 1 c.if-channels-eq1.false, signed_zero 8 a.mix_res, c.if-mix_res-eq0.true)
 
 pub returns : goal.returns
 unfolding mix_ok
 returns c =
     let a = c.args in
-    rw (ne_eqb a.channels 1 c.if-channels-eq1.false, signed_zero 8 a.mix-res, ne_eqb a.mix-res 0 c.if-mix_res-eq0.false)
+    rw (ne_eqb a.channels 1 c.if-channels-eq1.false, signed_zero 8 a.mix_res, ne_eqb a.mix_res 0 c.if-mix_res-eq0.false)

@@ -22,9 +22,8 @@ coef_of-requires c =
 pub loop-left-preserved : goal.loop-left-preserved
 loop-left-preserved c =
     let r = c.read.ensures in
-    let v = c.v-1.given in
     rw (held16 c.coef_of.result c.coef_of.type_inv, c.coef_of.ensures)
-    (filling_next (bits_of c.args.packet.now) c.loop-left.invariant c.loop-left-test.true (value_of r v.1) (plain_of r v.1))
+    (filling_next (bits_of c.args.packet.now) c.loop-left.invariant c.loop-left-test.true (value_of r c.in-Value.is) (plain_of r c.in-Value.is))
 
 pub returns : goal.returns
 returns c =

@@ -16,48 +16,42 @@ returns-in_default c =
 pub returns-in_default-read : goal.returns-in_default-read
 unfolding params bind
 returns-in_default-read c =
-    let v = c.mode-1.given in
     let r = c.read.ensures in
-    parameters_short c.short_parameters-in_default-read.ensures (plain_of r v.1) (rw (
-      value_of r v.1,
-      cut_of _ 4 (bit_of v.0.1.0) c.read-2.ensures c.in_default-read.is,
+    parameters_short c.short_parameters-in_default-read.ensures (plain_of r c.in-Value.is) (rw (
+      value_of r c.in-Value.is,
+      cut_of _ 4 (bit_of c.in-Value.at_quant) c.read-2.ensures c.in_default-read.is,
     ))
 
 pub returns-in_default-read-2 : goal.returns-in_default-read-2
 unfolding params bind
 returns-in_default-read-2 c =
-    let v = c.quant-1.given in
     let r = c.read-2.ensures in
-    parameters_short c.short_parameters-in_default-read-2.ensures (plain_of r v.1) (rw (
+    parameters_short c.short_parameters-in_default-read-2.ensures (plain_of r c.in-Value-read.is) (rw (
       value_of c.read.ensures c.in-Value.is,
-      value_of r v.1,
-      cut_of _ 3 (bit_of v.0.1.0) c.read-3.ensures c.in_default-read-2.is,
+      value_of r c.in-Value-read.is,
+      cut_of _ 3 (bit_of c.in-Value-read.at_factor) c.read-3.ensures c.in_default-read-2.is,
     ))
 
 pub returns-in_default-read-3 : goal.returns-in_default-read-3
 unfolding params bind
 returns-in_default-read-3 c =
-    let v = c.pb_factor-1.given in
     let r = c.read-3.ensures in
-    parameters_short c.short_parameters-in_default-read-3.ensures (plain_of r v.1) (rw (
+    parameters_short c.short_parameters-in_default-read-3.ensures (plain_of r c.in-Value-read-2.is) (rw (
       value_of c.read.ensures c.in-Value.is,
       value_of c.read-2.ensures c.in-Value-read.is,
-      value_of r v.1,
-      cut_of _ 5 (bit_of v.0.1.0) c.read-4.ensures c.in_default-read-3.is,
+      value_of r c.in-Value-read-2.is,
+      cut_of _ 5 (bit_of c.in-Value-read-2.at_order) c.read-4.ensures c.in_default-read-3.is,
     ))
 
 pub read_coefs-filled-requires : goal.read_coefs-filled-requires
 read_coefs-filled-requires c =
     let r = c.read-4.ensures in
-    let v = c.in-Value-read-3.is in
-    let at = c.in-Value-read-2.at_order in
-    record { plain = plain_of r v; order_lt = read_lt _ 5 (bit_of at) (value_of r v) }
+    record { plain = plain_of r c.in-Value-read-3.is; order_lt = read_lt _ 5 (bit_of c.in-Value-read-2.at_order) (value_of r c.in-Value-read-3.is) }
 
 pub overflow_mul-factor : goal.overflow_mul-factor
 overflow_mul-factor c =
     let e = value_of c.read-3.ensures c.in-Value-read-2.is in
-    let at = c.in-Value-read.at_factor in
-    record { fits = factor_fits c.struct_known-1.given.1.1.1.0.fits (read_lt _ 3 (bit_of at) e) }
+    record { fits = factor_fits c.struct_known-1.given.1.1.1.0.fits (read_lt _ 3 (bit_of c.in-Value-read.at_factor) e) }
 
 pub returns : goal.returns
 unfolding params bind

@@ -19,13 +19,12 @@ returns-in_default c =
 pub returns-in_default-read : goal.returns-in_default-read
 unfolding planned bind
 returns-in_default-read c =
-    let v = c.mix_bits-1.given in
     let r = c.read.ensures in
     rw c.refused_plan-in_default-read.ensures
-    (plan_refused (plain_of r v.1) (rw (
+    (plan_refused (plain_of r c.in-Value.is) (rw (
       ← c.plain-start.ensures.same,
-      value_of r v.1,
-      cut_of _ 8 (bit_of v.0.1.0) c.read-2.ensures c.in_default-read.is,
+      value_of r c.in-Value.is,
+      cut_of _ 8 (bit_of c.in-Value.at_res) c.read-2.ensures c.in_default-read.is,
     )))
 
 pub read_channels-both-requires : goal.read_channels-both-requires
@@ -38,25 +37,23 @@ pub returns-in-Refused : goal.returns-in-Refused
 unfolding planned bind
 returns-in-Refused c =
     let r = c.read_channels-both.ensures.reaches in
-    let k = c.in-Refused.is in
     rw c.refused_plan-in-Refused.ensures
-    (plan_refused (refused_plain_of r k) (rw (
+    (plan_refused (refused_plain_of r c.in-Refused.is) (rw (
       ← c.plain-start.ensures.same,
       value_of c.read.ensures c.in-Value.is,
       value_of c.read-2.ensures c.in-Value-read.is,
-      refused_of r k,
+      refused_of r c.in-Refused.is,
     )))
 
 pub returns-in-At : goal.returns-in-At
 unfolding planned bind
 returns-in-At c =
     let r = c.read_channels-both.ensures in
-    let k = c.in-At.is in
     let e = value_of c.read-2.ensures c.in-Value-read.is in
     rw (
       c.judged.ensures,
       ← c.plain-start.ensures.same,
       value_of c.read.ensures c.in-Value.is,
       e,
-      reached_of r.reaches k,
-    ) (plan-judged _ (read_lt _ 8 (bit_of c.in-Value.at_res) e) r.settled r.alone _ (reached_plain_of r.reaches k))
+      reached_of r.reaches c.in-At.is,
+    ) (plan-judged _ (read_lt _ 8 (bit_of c.in-Value.at_res) e) r.settled r.alone _ (reached_plain_of r.reaches c.in-At.is))
