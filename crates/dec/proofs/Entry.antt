@@ -1,11 +1,11 @@
 -- The entries: the tests of 2 and 3, and the promise from its parts. Once, for every kind of output.
 use Prim.Native.Nat.{ℕ, ◌≤◌}
 use mathlib.Core.Path.{◌≡◌, refl, ◌∙◌}
-use mathlib.Core.Bool.{Bool, true, false, ◌&&◌, ◌||◌}
+use mathlib.Core.Bool.{Bool, true, false, ◌||◌}
 use mathlib.Core.List.{List}
 use native.Mathlib.Omega.{arith}
 use borrow.Author.Tests.{leb-true, eqb-true}
-use lib.Dec.{leb, eqb}
+use lib.Dec.{eqb}
 use lib.ListN.{length}
 use lib.IntN.{ℤ, pos}
 use Rattle.rules.specs.declared.Place.{Place}
@@ -21,7 +21,7 @@ use Rattle.rules.specs.Buffers.{cleared}
 use Rattle.rules.specs.Element.{Sound}
 use Rattle.rules.specs.Packet.{packet}
 use Rattle.rules.specs.Reader.{roomy, decoded, answer_of, written, output_after, scratch_after}
-use Rattle.laws.specs.Tests.{and_parts, AcceptedFields, accepted_fields}
+use Rattle.laws.specs.Tests.{and_parts, accepted_fields}
 use Rattle.dec.specs.declared.Judged.TheVariants.{Fit, Unfit}
 use Rattle.dec.specs.Promise.{Promise}
 use Rattle.dec.specs.Told.{judgement, Readable, Finished}

@@ -1,16 +1,13 @@
 -- One element: the step after it, and its channels in the output; for every kind of output.
 use Prim.Native.Nat.{ℕ, ◌+◌, ◌-◌, ◌*◌, ◌≤◌, ◌<◌}
 use mathlib.Core.Path.{◌≡◌, refl, ap, ◌∙◌}
-use mathlib.Core.List.{List, [], ◌∷◌, map}
-use mathlib.Core.Logic.{inl, inr}
-use native.Mathlib.Nat.{mul-le-mul, mul-le-mul_right}
+use mathlib.Core.List.{List, map}
+use native.Mathlib.Nat.{mul-le-mul_right}
 use native.Mathlib.Numerals.{add-one}
 use native.Mathlib.Omega.{arith}
 use lib.ListN.{length, take, drop, length-drop}
 use lib.Seq.{length-take-le}
 use lib.IntN.{ℤ}
-use types.Run.{OneOf}
-use denote.Enum.Declared.{tag_of}
 use Rattle.rules.specs.declared.Place.{Place}
 use Rattle.rules.specs.declared.StreamInfo.{StreamInfo}
 use Rattle.rules.specs.declared.Samples.TheVariants.{Known}
@@ -29,7 +26,6 @@ use Rattle.dec_packet.specs.declared.State.{State}
 use Rattle.dec_packet.specs.declared.Element.{Element}
 use Rattle.dec_packet.specs.declared.Element.TheVariants.{Audio, Passed, End, Refused}
 use Rattle.dec_packet.specs.Told.{untracked_turn, told_element, Sane, Turns, Turnable}
-use Rattle.dec_packet.specs.contracts.Element.{the_type}
 use Rattle.dec.specs.declared.Step.{Step}
 use Rattle.dec.specs.declared.Step.TheVariants.{More, Done}
 use Rattle.dec.specs.Told.{Layable, step_after, Follows, output_turned, Steppable, Steps}
@@ -149,14 +145,12 @@ module _ (w : Width) (s : StreamInfo) (st : State) {a : Ans Turn} {was is : List
   stepped_audio e f o = stepped (rw e f) (rw e o)
 
   -- an element of another kind leaves the output as it was
-  pub stepped_quiet : {r : Step} → OneOf (1 ∷ 2 ∷ 3 ∷ []) (tag_of the_type element) → Follows s st element r → Steps w s st a out out was is r
+  pub stepped_quiet : {r : Step} → ((k n : ℕ) (pl : Place) → element ≡ Audio k n pl → ⊥) → Follows s st element r → Steps w s st a out out was is r
   unfolding output_turned told_element
   stepped_quiet other f = stepped f (by element other)
     where
-      by : (e : Element) → OneOf (1 ∷ 2 ∷ 3 ∷ []) (tag_of the_type e) → out ≡ output_turned w s st.channels (told_element s.frame_length is e) out
-      by (Audio k n pl) (inl o) = absurd (omega arith)
-      by (Audio k n pl) (inr (inl o)) = absurd (omega arith)
-      by (Audio k n pl) (inr (inr o)) = absurd (omega arith)
+      by : (e : Element) → ((k n : ℕ) (pl : Place) → e ≡ Audio k n pl → ⊥) → out ≡ output_turned w s st.channels (told_element s.frame_length is e) out
+      by (Audio k n pl) o = absurd (o k n pl refl)
       by (Passed pl) o = refl
       by (End n pl) o = refl
       by (Refused x pl) o = refl

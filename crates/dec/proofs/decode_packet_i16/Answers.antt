@@ -1,0 +1,41 @@
+-- `decode_packet_i16` keeps its promise: 2 and 3 change nothing, scratch is cleared around the elements, and a refusal is silence.
+use mathlib.Core.Path.{◌≡◌, sym, ◌∙◌}
+use native.Mathlib.Omega.{arith}
+use lib.ListN.{length}
+use Rattle.rules.specs.Stream.{i16_output}
+use Rattle.dec.specs.declared.Judged.TheVariants.{Fit}
+use Rattle.dec.specs.Told.{judgement, Readable}
+use Rattle.dec.proofs.Entry.{depth_i16, readable, promise_unfit, promise_accepted, promise_refused}
+use Rattle.dec.proofs.decode_packet_i16.Goals as goal
+
+pub returns-in-Unfit : goal.returns-in-Unfit
+returns-in-Unfit c =
+    promise_unfit i16_output _ _ _ _ (sym c.in-Unfit.is ∙ c.judge-judged.ensures.says i16_output c.takes_i16.ensures)
+
+pub read_all_i16-answer-requires : goal.read_all_i16-answer-requires
+read_all_i16-answer-requires c =
+    let fit : Fit ≡ judgement i16_output c.args.s (length c.args.out.now) (length c.args.scratch.now) = sym c.in_default.is ∙ c.judge-judged.ensures.says i16_output c.takes_i16.ensures in
+    let begins : Readable c.args.s c.args.out.now c.args.scratch.now = readable i16_output _ c.args.packet.now _ _ fit depth_i16 in
+    begins
+
+pub clear_scratch-requires : goal.clear_scratch-requires
+clear_scratch-requires c =
+    let fit : Fit ≡ judgement i16_output c.args.s (length c.args.out.now) (length c.args.scratch.now) = sym c.in_default.is ∙ c.judge-judged.ensures.says i16_output c.takes_i16.ensures in
+    let begins : Readable c.args.s c.args.out.now c.args.scratch.now = readable i16_output _ c.args.packet.now _ _ fit depth_i16 in
+    omega (arith, begins.room, c.read_all_i16-answer.auto.scratch)
+
+pub returns-in_default-answer : goal.returns-in_default-answer
+returns-in_default-answer c =
+    let fit : Fit ≡ judgement i16_output c.args.s (length c.args.out.now) (length c.args.scratch.now) = sym c.in_default.is ∙ c.judge-judged.ensures.says i16_output c.takes_i16.ensures in
+    promise_accepted i16_output _ _ _ _ fit c.read_all_i16-answer.ensures c.clear_scratch.ensures c.in_default-answer.is
+
+pub clear_i16-requires : goal.clear_i16-requires
+clear_i16-requires c =
+    let fit : Fit ≡ judgement i16_output c.args.s (length c.args.out.now) (length c.args.scratch.now) = sym c.in_default.is ∙ c.judge-judged.ensures.says i16_output c.takes_i16.ensures in
+    let begins : Readable c.args.s c.args.out.now c.args.scratch.now = readable i16_output _ c.args.packet.now _ _ fit depth_i16 in
+    omega (arith, begins.places, c.read_all_i16-answer.auto.out)
+
+pub returns : goal.returns
+returns c =
+    let fit : Fit ≡ judgement i16_output c.args.s (length c.args.out.now) (length c.args.scratch.now) = sym c.in_default.is ∙ c.judge-judged.ensures.says i16_output c.takes_i16.ensures in
+    promise_refused i16_output _ _ _ _ fit c.read_all_i16-answer.ensures c.clear_scratch.ensures c.in-Refused.is c.clear_i16.ensures

@@ -1,0 +1,11 @@
+-- `lay_i32` meets its contract: the first channel goes to its places, and the second, where there is one, to those after them.
+use Rattle.rules.specs.Stream.{i32_output}
+use Rattle.dec.proofs.Steps.{laid_one, laid_two}
+use Rattle.dec.proofs.lay_i32.Goals as goal
+
+pub returns-then-w-eq1 : goal.returns-then-w-eq1
+returns-then-w-eq1 c = laid_one c.before.requires (i32_output.keep c.before.args.s.bit_depth) c.store_i32.ensures c.if-w-eq1.true
+
+pub returns : goal.returns
+returns c =
+    laid_two c.before.requires (i32_output.keep c.before.args.s.bit_depth) c.store_i32.ensures c.if-w-eq1.false c.store_i32-2.ensures
