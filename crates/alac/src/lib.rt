@@ -1,4 +1,4 @@
-// The boundary: exported functions over the entries, and nothing else. A slice is a pointer and a length; an array is a pointer.
+// The boundary: the entries as a program in another language calls them, with the cookie's bytes and flat settings. alac_c exports these.
 #![tactic(auto)]
 
 ghost use Rattle.std.specs.Prelude.{◌≡◌, [], ◌∷◌};
@@ -33,8 +33,7 @@ fn fields_of(s: StreamInfo) -> [u64; 11]
     ]
 }
 
-#[unsafe(no_mangle)]
-pub extern "C" fn alac_stream_info(cookie: &[u8], fields: &mut [u64; 11]) -> u32
+pub fn alac_stream_info(cookie: &[u8], fields: &mut [u64; 11]) -> u32
     ensures { Told cookie.now fields.old fields.new result }
 {
     let read = from_cookie(cookie);
@@ -64,8 +63,7 @@ fn tell_answer(answer: &mut [u64; 4], a: Answer) -> u32
     }
 }
 
-#[unsafe(no_mangle)]
-pub extern "C" fn alac_decode_packet_i16(
+pub fn alac_decode_packet_i16(
     cookie: &[u8],
     packet: &[u8],
     out: &mut [i16],
@@ -81,8 +79,7 @@ pub extern "C" fn alac_decode_packet_i16(
     }
 }
 
-#[unsafe(no_mangle)]
-pub extern "C" fn alac_decode_packet_i32(
+pub fn alac_decode_packet_i32(
     cookie: &[u8],
     packet: &[u8],
     out: &mut [i32],
@@ -107,8 +104,7 @@ fn tell_packed(answer: &mut [u64; 4], p: Packed) -> u32
     }
 }
 
-#[unsafe(no_mangle)]
-pub extern "C" fn alac_encode_packet_i16(
+pub fn alac_encode_packet_i16(
     cookie: &[u8],
     settings: &[i16],
     passage: &[i16],
