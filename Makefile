@@ -10,8 +10,8 @@ test: kit
 	@tools/test
 
 readings: kit
-	@rt check readings >target/readings.log 2>&1 || { cat target/readings.log; cat target/log/readings.stdout 2>/dev/null; exit 1; }
-	@cat target/log/readings.stdout
+	@mkdir -p target; cd crates/readings && rt run <stdin >../../target/readings.stdout 2>../../target/readings.log || { cat ../../target/readings.log ../../target/readings.stdout; exit 1; }
+	@cat target/readings.stdout
 
 walk: kit
 	@tools/walk

@@ -25,21 +25,28 @@ fn put_archive(archive: &Path) -> Result<(), String> {
         return copy(ready, archive);
     }
     let root = Path::new(env!("CARGO_MANIFEST_DIR")).join("../..");
-    for source in ["crates", "crates.txt", "tools/native-staticlib", "tools/native-kit"] {
+    for source in ["crates.txt", "tools/native-staticlib", "tools/native-kit"] {
         println!("cargo:rerun-if-changed={}", root.join(source).display());
+    }
+    // A crate's out/ is what proving leaves there, and not a source.
+    for folder in fs::read_dir(root.join("crates")).map_err(|why| format!("crates/ cannot be read: {why}"))?.flatten() {
+        for part in ["src", "specs", "proofs"].map(|part| folder.path().join(part)).iter().filter(|part| part.exists()) {
+            println!("cargo:rerun-if-changed={}", part.display());
+        }
     }
     let target = |part: &str| env::var(format!("CARGO_CFG_TARGET_{part}")).unwrap_or_default();
     match (target("OS").as_str(), target("ARCH").as_str()) {
         ("linux", "x86_64") => {
-            run(Command::new("rt").args(["staticlib", "alac"]), &root)?;
-            copy(&root.join("target/staticlib/libalac.a"), archive)
+            let crate_folder = root.join("crates/alac_c");
+            run(Command::new("rt").arg("lib"), &crate_folder)?;
+            copy(&crate_folder.join("out/libalac_c.a"), archive)
         }
         ("linux", "aarch64") => {
             println!(
                 "cargo:warning=on Arm the library is compiled for development only: the product is the x86-64 archive"
             );
             run(Command::new("rt").arg("version"), &root)?;
-            run(Command::new(root.join("tools/native-staticlib")).arg("alac").arg(archive), &root)
+            run(Command::new(root.join("tools/native-staticlib")).arg("alac_c").arg(archive), &root)
         }
         (os, arch) => Err(format!("there is no library for {os} on {arch}, only for Linux on x86-64 and Arm")),
     }

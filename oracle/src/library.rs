@@ -1,4 +1,4 @@
-//! Our library behind its C boundary. Each declaration stands as crates/alac/src/lib.rt has it: a slice is a pointer and a length.
+//! Our library behind its C boundary. Each declaration stands as crates/alac_c/src/lib.rt has it: a slice is a pointer and a length.
 
 extern "C" {
     fn alac_stream_info(cookie: *const u8, cookie_len: usize, fields: *mut u64) -> u32;

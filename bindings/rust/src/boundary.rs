@@ -1,6 +1,6 @@
 //! The library's exported functions: the only unsafe code.
 //!
-//! Each declaration stands below the Rattle signature that it has to match (crates/alac/src/lib.rt): a slice is a
+//! Each declaration stands below the Rattle signature that it has to match (crates/alac_c/src/lib.rt): a slice is a
 //! pointer and a length, an array a pointer. tests/boundary.rs holds both, and include/alac.h, against each other.
 
 use crate::InvalidData;

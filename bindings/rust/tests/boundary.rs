@@ -3,7 +3,7 @@
 use std::fs;
 use std::path::Path;
 
-const RATTLE: &str = "../../crates/alac/src/lib.rt";
+const RATTLE: &str = "../../crates/alac_c/src/lib.rt";
 const RUST: &str = "src/boundary.rs";
 const HEADER: &str = "../../include/alac.h";
 
@@ -194,7 +194,7 @@ fn a_mismatch_is_found() {
         (0, "answer: &mut [u64; 4],\n) -> u32", "answer: &mut [u64],\n) -> u32"),
         (0, "extern \"C\" fn alac_stream_info", "extern \"C\" fn alac_info"),
         (0, "answer: &mut [u64; 4],\n) -> u32", "answer: &mut [u64; 4],\n) -> u64"),
-        (0, "#[no_mangle]", "#[no_mangle]\npub extern \"C\" fn alac_more(a: &[u8]) -> u32\n{}\n"),
+        (0, "#[unsafe(no_mangle)]", "#[unsafe(no_mangle)]\npub extern \"C\" fn alac_more(a: &[u8]) -> u32\n{}\n"),
         (1, "fn alac_stream_info(cookie: *const u8", "fn alac_stream_info(cookie: *mut u8"),
         (1, "fields: *mut [u64; 11]", "fields: *mut [u64; 10]"),
         (1, "fields: *mut [u64; 11]", "fields: *mut u64"),
