@@ -1,12 +1,10 @@
 -- `symbol_code` meets its contract: quotient and remainder, or the escape.
 use Prim.Native.Nat.{◌+◌, ◌*◌, ◌%◌}
 use native.Mathlib.Omega.{arith}
-use lib.Pow.{pow_pos}
 use Rattle.rules.specs.Rice.{symbol_m}
 use Rattle.rules.specs.Writer.{symbol_bits}
 use Rattle.enc_rice.specs.Code.{Codes}
-use Rattle.enc_rice.proofs.Codes.{codes_lt, m_pos, symbol-parts, symbol_short, symbol_escape}
-use borrow.Author.Rules.{rules}
+use Rattle.enc_rice.proofs.Codes.{m_pos, symbol-parts, symbol_short, symbol_escape}
 use Rattle.enc_rice.proofs.symbol_code.Goals as goal
 
 pub nonzero_div-q : goal.nonzero_div-q
