@@ -1,9 +1,9 @@
 -- A channel's samples and residuals in scratch, and scratch cleared of them.
 use Prim.Native.Nat.{ℕ, zero, suc, ◌+◌, ◌-◌, ◌≤◌, ◌<◌}
-use mathlib.Core.Path.{◌≡◌, refl, sym, ap, ◌∙◌}
-use mathlib.Core.List.{List, [], ◌∷◌, ◌++◌, append_assoc, reverse}
+use mathlib.Core.Path.{◌≡◌, refl, ap, ◌∙◌}
+use mathlib.Core.List.{List, [], ◌++◌, append_assoc, reverse}
 use native.Mathlib.Omega.{arith}
-use lib.ListN.{length, take, drop, get_or, replicate, length-append, length-replicate}
+use lib.ListN.{length, take, drop, get_or, replicate, length-replicate}
 use lib.Seq.{take_at, drop_at}
 use lib.IntN.{ℤ, pos}
 use Rattle.rules.specs.declared.StreamInfo.{StreamInfo}

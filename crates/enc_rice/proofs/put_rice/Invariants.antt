@@ -1,8 +1,7 @@
 -- `put_rice` meets its contract: what went out and the rules from here on are the rules from the start.
 use Prim.Native.Nat.{◌-◌}
-use native.Mathlib.Omega.{arith}
 use lib.ListN.{length}
-use Rattle.enc_rice.proofs.Turns.{Going, going_start, going_turns, going_puts, going_next, going_done}
+use Rattle.enc_rice.proofs.Turns.{Going}
 use Rattle.enc_rice.proofs.put_rice.Given as goal
 
 abbrev pub invariant-loop-i : goal.invariant-loop-i

@@ -1,8 +1,5 @@
 -- `put_turn` meets its contract: the symbol goes out, and the run after it if it has bits.
-use Rattle.enc_bits.proofs.Sent.{sent_sent}
-use Rattle.enc_rice.specs.Code.{code_bits}
 use Rattle.enc_rice.proofs.Turns.{run_takes, sent_alone}
-use borrow.Author.Rules.{rules}
 use Rattle.enc_rice.proofs.put_turn.Goals as goal
 
 pub returns-then-b-eq0 : goal.returns-then-b-eq0

@@ -6,8 +6,7 @@ use lib.ListN.{replicate}
 use lib.Pow.{pow_mono}
 use Rattle.rules.specs.Writer.{rest_bits}
 use Rattle.enc_rice.specs.Code.{Codes}
-use Rattle.enc_rice.proofs.Codes.{codes_lt, short_zero, short_more}
-use borrow.Author.Rules.{rules}
+use Rattle.enc_rice.proofs.Codes.{short_zero, short_more}
 use Rattle.enc_rice.proofs.short_code.Goals as goal
 
 pub overflow_sub-front : goal.overflow_sub-front

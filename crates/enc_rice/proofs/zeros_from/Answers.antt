@@ -1,13 +1,10 @@
 -- `zeros_from` meets its contract: the samples from `from` to `j` are zeros, and those from `j` on are still to be counted.
-use Prim.Native.Nat.{◌+◌, ◌-◌, ◌≤◌}
 use mathlib.Core.Path.{◌≡◌}
 use native.Mathlib.Omega.{arith}
-use lib.ListN.{length, drop, get_or}
+use lib.ListN.{length, get_or}
 use lib.IntN.{pos}
-use Rattle.rules.specs.Writer.{zeros}
 use Rattle.words.proofs.Laws.{zero_bits, nonzero_bits}
 use Rattle.enc_rice.proofs.Turns.{zeros-next, zeros_stop, zeros_end}
-use borrow.Author.Rules.{rules}
 use Rattle.enc_rice.proofs.zeros_from.Goals as goal
 
 pub returns-then-residuals-j-ne0 : goal.returns-then-residuals-j-ne0
@@ -21,7 +18,7 @@ pub loop-j-preserved : goal.loop-j-preserved
 loop-j-preserved c =
     let es = c.args.residuals.now in
     let e = get_or es c.loop-j.j (pos 0) in
-    let z = zeros-next es c.loop-j.j c.loop-j-test.true (zero_bits e c.t7-1.given c.if-residuals-j-ne0.false) in
+    let z = zeros-next es c.loop-j.j c.loop-j-test.true (zero_bits e (omega arith) c.if-residuals-j-ne0.false) in
     (omega arith, omega arith, omega (arith, c.loop-j.invariant.2, z))
 
 pub returns : goal.returns

@@ -1,13 +1,8 @@
 -- `zeros_from` meets its contract: the samples from `from` to `j` are zeros, and those from `j` on are still to be counted.
 use Prim.Native.Nat.{◌+◌, ◌-◌, ◌≤◌}
 use mathlib.Core.Path.{◌≡◌}
-use native.Mathlib.Omega.{arith}
-use lib.ListN.{length, drop, get_or}
-use lib.IntN.{pos}
+use lib.ListN.{length, drop}
 use Rattle.rules.specs.Writer.{zeros}
-use Rattle.words.proofs.Laws.{zero_bits, nonzero_bits}
-use Rattle.enc_rice.proofs.Turns.{zeros-next, zeros_stop, zeros_end}
-use borrow.Author.Rules.{rules}
 use Rattle.enc_rice.proofs.zeros_from.Given as goal
 
 abbrev pub invariant-loop-j : goal.invariant-loop-j
