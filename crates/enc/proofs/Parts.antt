@@ -1,19 +1,19 @@
 -- The packet's parts: those of one channel or two, how long they are, and that one after the other they are the packet.
-use Prim.Native.Nat.{ℕ, zero, suc, ◌+◌, ◌-◌, ◌*◌, ◌/◌, ◌^◌, ◌≤◌, ◌<◌}
-use mathlib.Core.Path.{◌≡◌, refl, sym, ap, ◌∙◌}
+use Prim.Native.Nat.{ℕ, zero, suc, ◌+◌, ◌*◌, ◌^◌, ◌≤◌, ◌<◌}
+use mathlib.Core.Path.{◌≡◌, refl, ◌∙◌}
 use mathlib.Core.List.{List, [], ◌∷◌, ◌++◌, map, append_assoc}
 use native.Mathlib.Omega.{arith}
 use lib.ListN.{length, take, get_or, replicate, length-append}
-use lib.IntN.{ℤ, pos}
+use lib.IntN.{ℤ}
 use Rattle.rules.specs.declared.StreamInfo.{StreamInfo}
 use Rattle.rules.specs.declared.ChannelSettings.{ChannelSettings}
 use Rattle.rules.specs.declared.PackingSettings.{PackingSettings}
-use Rattle.rules.specs.Bits.{digits, to_edge, padded}
+use Rattle.rules.specs.Bits.{digits, to_edge}
 use Rattle.rules.specs.Buffers.{laid, pairs}
 use Rattle.rules.specs.Writer.{settings_used, written_bits, joined, param_bits, head_bits, bit_limit, channel_code, channel_codes, packet_bits, packet_bytes}
 use Rattle.laws.specs.Bits.{length_digits}
 use Rattle.laws.specs.Words.{Every, none, one}
-use Rattle.laws.specs.Writer.{ChannelTold, Told, Writable, told, samples_of, mixed_lanes, mixed-lanes_count, packet_limit}
+use Rattle.laws.specs.Writer.{ChannelTold, Writable, told, samples_of, mixed_lanes, mixed-lanes_count, packet_limit}
 use Rattle.enc_bits.specs.declared.Sink.{Sink}
 use Rattle.enc_bits.specs.Sent.{Sent, start}
 use Rattle.enc_bits.proofs.Sent.{sent_sent, sent_padded}
