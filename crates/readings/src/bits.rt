@@ -2,25 +2,28 @@
 use crate::report::{Counts, gives};
 use bitcursor::{Got, Reached};
 use rules::Place;
+use std::io;
 
-pub fn readings(counts: Counts) -> Counts {
+pub fn readings(rt: &impl Print, counts: Counts) -> io::Result<Counts> {
     let bytes = *b"\0\0\0\x01\x80\0\0\0";
     let counts = gives(
+        rt,
         counts,
         b"32 bits of 00 00 00 01 80 00 00 00",
         value(&bytes, 0, 32),
         1,
-    );
-    let counts = gives(counts, b"32 bits one bit on", value(&bytes, 1, 32), 3);
-    let counts = gives(counts, b"33 bits in, 31 bits", value(&bytes, 33, 31), 0);
+    )?;
+    let counts = gives(rt, counts, b"32 bits one bit on", value(&bytes, 1, 32), 3)?;
+    let counts = gives(rt, counts, b"33 bits in, 31 bits", value(&bytes, 33, 31), 0)?;
     let counts = gives(
+        rt,
         counts,
         b"33 bits in, 32 bits are too many",
         value(&bytes, 33, 32),
         4294967295,
-    );
-    let counts = gives(counts, b"the edge after 9 bits", edge(&bytes, 9), 16);
-    gives(counts, b"the edge after 16 bits", edge(&bytes, 16), 16)
+    )?;
+    let counts = gives(rt, counts, b"the edge after 9 bits", edge(&bytes, 9), 16)?;
+    gives(rt, counts, b"the edge after 16 bits", edge(&bytes, 16), 16)
 }
 
 fn place(bit: usize) -> Place {

@@ -2,19 +2,20 @@
 use crate::report::{Counts, holds};
 use crate::row::{gives, number_at, number_up_to, sample_at, stream_of};
 use rules::Answer;
+use std::io;
 
 // A row with no samples says nothing of them.
-pub fn reading(counts: Counts, row: &[u8], packet: &[u8]) -> Counts {
+pub fn reading(rt: &impl Print, counts: Counts, row: &[u8], packet: &[u8]) -> io::Result<Counts> {
     if number_at(row, 1) != 16 {
-        return gives(counts, row, number_of(wide_answer(row, packet)));
+        return gives(rt, counts, row, number_of(wide_answer(row, packet)));
     }
     let mut out = [7i16; 4];
     let answer = narrow_answer(row, packet, &mut out);
-    let counts = gives(counts, row, number_of(answer));
+    let counts = gives(rt, counts, row, number_of(answer))?;
     if number_at(row, 13) > 0 {
-        return holds(counts, b"its samples", are_samples(row, answer, &out));
+        return holds(rt, counts, b"its samples", are_samples(row, answer, &out));
     }
-    counts
+    Ok(counts)
 }
 
 fn narrow_answer(row: &[u8], packet: &[u8], out: &mut [i16]) -> Answer {

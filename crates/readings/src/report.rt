@@ -1,57 +1,53 @@
 // A line for each reading, and how many there were.
-use libc::STDOUT_FILENO;
-use std::num::wrapping_add_u64;
+use std::io;
 
-#[derive(Drop)]
+#[derive(Clone, Copy)]
 pub struct Counts {
     pub readings: u64,
     pub failed: u64,
 }
 
 // A reading that gives a number, beside the number that it should give.
-pub fn gives(counts: Counts, line: &[u8], gave: u32, wanted: u32) -> Counts {
+pub fn gives(
+    rt: &impl Print,
+    counts: Counts,
+    line: &[u8],
+    gave: u32,
+    wanted: u32,
+) -> io::Result<Counts> {
     let ok = gave == wanted;
-    begin(ok, line);
-    write(b": ");
-    io::print_decimal(STDOUT_FILENO, gave as u64);
+    begin(rt, ok, line)?;
+    print!(rt; ": {gave}")?;
     if !ok {
-        write(b", and should be ");
-        io::print_decimal(STDOUT_FILENO, wanted as u64);
+        print!(rt; ", and should be {wanted}")?;
     }
-    end(counts, ok)
+    end(rt, counts, ok)
 }
 
 // A reading that is right or wrong.
-pub fn holds(counts: Counts, line: &[u8], ok: bool) -> Counts {
-    begin(ok, line);
-    end(counts, ok)
+pub fn holds(rt: &impl Print, counts: Counts, line: &[u8], ok: bool) -> io::Result<Counts> {
+    begin(rt, ok, line)?;
+    end(rt, counts, ok)
 }
 
-pub fn total(counts: Counts) {
-    io::print_decimal(STDOUT_FILENO, counts.readings);
-    write(b" readings, ");
-    io::print_decimal(STDOUT_FILENO, counts.failed);
-    write(b" failed\n");
+pub fn total(rt: &impl Print, counts: Counts) -> io::Result<()> {
+    println!(rt; "{} readings, {} failed", counts.readings, counts.failed)
 }
 
-fn begin(ok: bool, line: &[u8]) {
+fn begin(rt: &impl Print, ok: bool, line: &[u8]) -> io::Result<()> {
     if ok {
-        write(b"ok ");
+        print!(rt; "ok ")?;
     } else {
-        write(b"FAILED ");
+        print!(rt; "FAILED ")?;
     }
-    write(line);
+    rt.write_all(line)
 }
 
-fn end(counts: Counts, ok: bool) -> Counts {
-    write(b"\n");
+fn end(rt: &impl Print, counts: Counts, ok: bool) -> io::Result<Counts> {
+    print!(rt; "\n")?;
     let failed = if ok { 0 } else { 1 };
-    Counts {
-        readings: wrapping_add_u64(counts.readings, 1),
-        failed: wrapping_add_u64(counts.failed, failed),
-    }
-}
-
-fn write(text: &[u8]) {
-    io::write_all(STDOUT_FILENO, text);
+    Ok(Counts {
+        readings: counts.readings.wrapping_add(1),
+        failed: counts.failed.wrapping_add(failed),
+    })
 }

@@ -13,28 +13,29 @@ ghost use Rattle.std.specs.Prelude.{◌≤◌};
 use crate::report;
 use crate::report::Counts;
 use crate::streams::stream;
-use libc::STDIN_FILENO;
 use rules::{ChannelSettings, PackingSettings, StreamInfo};
+use std::io;
+use std::io::Read;
 
 const TEXT: usize = 105;
 
-pub fn row_read() -> [u8; 336] {
+pub fn row_read(rt: &impl Input) -> [u8; 336] {
     let mut row = [0u8; 336];
-    let mut i = 0;
-    while i < 336 {
-        let c = character_read();
+    for i in 0..336 {
+        let c = character_read(rt);
         if c == 10 {
             return row;
         }
         row[i] = c;
-        i += 1;
     }
     row
 }
 
-fn character_read() -> u8 {
+// Past the end of the input it is 0.
+fn character_read(rt: &impl Input) -> u8 {
     let mut c = [0u8; 1];
-    io::read_full(STDIN_FILENO, &mut c);
+    let mut input = rt.reader();
+    let _ = input.read_exact(&mut c);
     c[0]
 }
 
@@ -98,12 +99,12 @@ pub fn sample_at(row: &[u8], column: u8) -> i16 {
 }
 
 // The row's text, and the number that it gives beside the one that is wanted.
-pub fn gives(counts: Counts, row: &[u8], gave: u32) -> Counts {
+pub fn gives(rt: &impl Print, counts: Counts, row: &[u8], gave: u32) -> io::Result<Counts> {
     let end = TEXT + number_at(row, 23) as usize;
     if end <= row.len() {
-        return report::gives(counts, &row[TEXT..end], gave, number_at(row, 22));
+        return report::gives(rt, counts, &row[TEXT..end], gave, number_at(row, 22));
     }
-    counts
+    Ok(counts)
 }
 
 // A part that is lent is never longer than what it is a part of.
@@ -124,10 +125,8 @@ pub fn number_at(row: &[u8], column: u8) -> u32 {
 // Room for the longest packet of a row.
 pub fn packet_of(row: &[u8]) -> [u8; 72] {
     let mut packet = [0u8; 72];
-    let mut i = 0;
-    while i < 72 {
+    for i in 0..72 {
         packet[i] = packet_byte(row, i);
-        i += 1;
     }
     packet
 }

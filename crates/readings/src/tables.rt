@@ -4,9 +4,10 @@ use crate::report::Counts;
 use crate::row::{number_at, number_up_to, packet_of, row_read};
 use crate::writer::Look;
 use crate::{cookies, reader, writer};
+use std::io;
 
 // What a table's rows ask.
-#[derive(Drop)]
+#[derive(Clone, Copy)]
 pub enum Kind {
     Cookie,
     Reader,
@@ -14,29 +15,33 @@ pub enum Kind {
     WholeFrame,
 }
 
-pub fn readings(counts: Counts, kind: Kind) -> Counts {
-    let heading = row_read();
+pub fn readings(rt: &(impl Input + Print), counts: Counts, kind: Kind) -> io::Result<Counts> {
+    let heading = row_read(rt);
     let mut counts = counts;
-    let mut left = number_at(&heading, 0);
-    while left > 0 {
-        counts = next_row(counts, kind);
-        left -= 1;
+    for _ in 0..number_at(&heading, 0) {
+        counts = next_row(rt, counts, kind)?;
     }
-    counts
+    Ok(counts)
 }
 
-fn next_row(counts: Counts, kind: Kind) -> Counts {
-    let row = row_read();
+fn next_row(rt: &(impl Input + Print), counts: Counts, kind: Kind) -> io::Result<Counts> {
+    let row = row_read(rt);
     let packet = packet_of(&row);
     let count = number_up_to(&row, 25, 72);
-    reading(counts, kind, &row, &packet[0..count])
+    reading(rt, counts, kind, &row, &packet[0..count])
 }
 
-fn reading(counts: Counts, kind: Kind, row: &[u8], packet: &[u8]) -> Counts {
+fn reading(
+    rt: &impl Print,
+    counts: Counts,
+    kind: Kind,
+    row: &[u8],
+    packet: &[u8],
+) -> io::Result<Counts> {
     match kind {
-        Kind::Cookie => cookies::reading(counts, row, packet),
-        Kind::Reader => reader::reading(counts, row, packet),
-        Kind::Writer(look) => writer::reading(counts, row, packet, look),
-        Kind::WholeFrame => writer::whole_frame(counts, row, packet),
+        Kind::Cookie => cookies::reading(rt, counts, row, packet),
+        Kind::Reader => reader::reading(rt, counts, row, packet),
+        Kind::Writer(look) => writer::reading(rt, counts, row, packet, look),
+        Kind::WholeFrame => writer::whole_frame(rt, counts, row, packet),
     }
 }

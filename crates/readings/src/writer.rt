@@ -3,9 +3,10 @@ use crate::reader::are_samples;
 use crate::report::{Counts, holds};
 use crate::row::{gives, number_at, number_up_to, passage_of, settings_of, stream_of};
 use rules::Packed;
+use std::io;
 
 // What is looked at behind the number.
-#[derive(Drop)]
+#[derive(Clone, Copy)]
 pub enum Look {
     Nothing,
     Samples,
@@ -13,16 +14,22 @@ pub enum Look {
     Buffers,
 }
 
-pub fn reading(counts: Counts, row: &[u8], packet: &[u8], look: Look) -> Counts {
+pub fn reading(
+    rt: &impl Print,
+    counts: Counts,
+    row: &[u8],
+    packet: &[u8],
+    look: Look,
+) -> io::Result<Counts> {
     let mut bytes = [7u8; 128];
     let mut scratch = [7i32; 9];
     let answer = packed(row, &mut bytes, &mut scratch);
-    let counts = gives(counts, row, number_of(answer));
+    let counts = gives(rt, counts, row, number_of(answer))?;
     match look {
-        Look::Nothing => counts,
-        Look::Samples => samples_read(counts, row, &bytes),
-        Look::Packet => written(counts, row, packet, answer, &bytes, &scratch),
-        Look::Buffers => refused(counts, row, &bytes, &scratch),
+        Look::Nothing => Ok(counts),
+        Look::Samples => samples_read(rt, counts, row, &bytes),
+        Look::Packet => written(rt, counts, row, packet, answer, &bytes, &scratch),
+        Look::Buffers => refused(rt, counts, row, &bytes, &scratch),
     }
 }
 
@@ -42,20 +49,21 @@ fn packed(row: &[u8], bytes: &mut [u8], scratch: &mut [i32]) -> Packed {
 
 // A packet, byte for byte, with what lies behind it; scratch; and the samples.
 fn written(
+    rt: &impl Print,
     counts: Counts,
     row: &[u8],
     packet: &[u8],
     answer: Packed,
     bytes: &[u8; 128],
     scratch: &[i32; 9],
-) -> Counts {
+) -> io::Result<Counts> {
     let Packed::Accepted(count) = answer else {
-        return counts;
+        return Ok(counts);
     };
-    let counts = holds(counts, b"its bytes", begins(bytes, count, packet));
-    let counts = holds(counts, b"the bytes behind stay", stays(bytes, count));
-    let counts = scratch_is_clear(counts, row, scratch);
-    samples_read(counts, row, bytes)
+    let counts = holds(rt, counts, b"its bytes", begins(bytes, count, packet))?;
+    let counts = holds(rt, counts, b"the bytes behind stay", stays(bytes, count))?;
+    let counts = scratch_is_clear(rt, counts, row, scratch)?;
+    samples_read(rt, counts, row, bytes)
 }
 
 fn begins(bytes: &[u8], count: usize, packet: &[u8]) -> bool {
@@ -74,28 +82,45 @@ fn stays(bytes: &[u8], count: usize) -> bool {
 }
 
 // What the writer takes is read back.
-fn samples_read(counts: Counts, row: &[u8], bytes: &[u8; 128]) -> Counts {
+fn samples_read(
+    rt: &impl Print,
+    counts: Counts,
+    row: &[u8],
+    bytes: &[u8; 128],
+) -> io::Result<Counts> {
     if number_at(row, 22) > 0 {
-        return counts;
+        return Ok(counts);
     }
     let mut out = [7i16; 4];
     let mut scratch = [7i32; 8];
     let answer = dec::decode_packet_i16(bytes, stream_of(row), &mut out, &mut scratch);
-    holds(counts, b"its samples", are_samples(row, answer, &out))
+    holds(rt, counts, b"its samples", are_samples(row, answer, &out))
 }
 
 // 2 and 3 change no buffer. Past 3 scratch is cleared.
-fn refused(counts: Counts, row: &[u8], bytes: &[u8; 128], scratch: &[i32; 9]) -> Counts {
-    let counts = holds(counts, b"every byte stays", stays(bytes, 0));
+fn refused(
+    rt: &impl Print,
+    counts: Counts,
+    row: &[u8],
+    bytes: &[u8; 128],
+    scratch: &[i32; 9],
+) -> io::Result<Counts> {
+    let counts = holds(rt, counts, b"every byte stays", stays(bytes, 0))?;
     if number_at(row, 22) > 3 {
-        return scratch_is_clear(counts, row, scratch);
+        return scratch_is_clear(rt, counts, row, scratch);
     }
-    holds(counts, b"all of scratch stays", is_clear(scratch, 0))
+    holds(rt, counts, b"all of scratch stays", is_clear(scratch, 0))
 }
 
-fn scratch_is_clear(counts: Counts, row: &[u8], scratch: &[i32; 9]) -> Counts {
+fn scratch_is_clear(
+    rt: &impl Print,
+    counts: Counts,
+    row: &[u8],
+    scratch: &[i32; 9],
+) -> io::Result<Counts> {
     let zeros = number_at(row, 0) as usize * 2;
     holds(
+        rt,
         counts,
         b"scratch is zero, and stays behind",
         is_clear(scratch, zeros),
@@ -104,19 +129,22 @@ fn scratch_is_clear(counts: Counts, row: &[u8], scratch: &[i32; 9]) -> Counts {
 
 // Zeros, and sevens behind them.
 fn is_clear(scratch: &[i32; 9], zeros: usize) -> bool {
-    let mut i = 0;
-    while i < 9 {
+    for i in 0..9 {
         let left = if i < zeros { 0 } else { 7 };
         if scratch[i] != left {
             return false;
         }
-        i += 1;
     }
     true
 }
 
 // A passage of zeros: a symbol, then a run of 4095 zeros, which is an escape.
-pub fn whole_frame(counts: Counts, row: &[u8], packet: &[u8]) -> Counts {
+pub fn whole_frame(
+    rt: &impl Print,
+    counts: Counts,
+    row: &[u8],
+    packet: &[u8],
+) -> io::Result<Counts> {
     let passage = [0i16; 4096];
     let mut bytes = [7u8; 11];
     let mut scratch = [7i32; 8193];
@@ -127,9 +155,10 @@ pub fn whole_frame(counts: Counts, row: &[u8], packet: &[u8]) -> Counts {
         &mut bytes,
         &mut scratch,
     );
-    let counts = gives(counts, row, number_of(answer));
-    let counts = holds(counts, b"its bytes", check::same(&bytes, packet));
+    let counts = gives(rt, counts, row, number_of(answer))?;
+    let counts = holds(rt, counts, b"its bytes", check::same(&bytes, packet))?;
     holds(
+        rt,
         counts,
         b"the last of 8192 places of scratch is zero, the next stays",
         (scratch[8191] == 0) & (scratch[8192] == 7),

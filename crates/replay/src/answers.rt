@@ -1,7 +1,7 @@
 // Our answer to a packet, in the recorded form: the number, the count and the checksum of the places that were lent.
 use rules::{Answer, StreamInfo};
 
-#[derive(Drop)]
+#[derive(Clone, Copy)]
 pub struct Reply {
     pub number: u32,
     pub count: u64,
@@ -40,20 +40,16 @@ fn reply_of(answer: Answer, sum: u32) -> Reply {
 
 fn sum_i16(places: &[i16]) -> u32 {
     let mut sum = 0;
-    let mut i = 0;
-    while i < places.len() {
-        sum = with(sum, widened(places[i]));
-        i += 1;
+    for place in places {
+        sum = with(sum, widened(*place));
     }
     sum
 }
 
 fn sum_i32(places: &[i32]) -> u32 {
     let mut sum = 0;
-    let mut i = 0;
-    while i < places.len() {
-        sum = with(sum, places[i]);
-        i += 1;
+    for place in places {
+        sum = with(sum, *place);
     }
     sum
 }

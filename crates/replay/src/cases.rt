@@ -2,21 +2,21 @@
 // the packet's length, then the original's answer: number, count, and the checksum of the output places (4 bytes).
 use crate::answers::{Reply, reply_i16, reply_i32};
 use crate::report::Case;
-use libc::STDIN_FILENO;
 use rules::StreamInfo;
+use std::io::Read;
 
 // The list opens with its number of cases.
-pub fn number_of_cases() -> u32 {
+pub fn number_of_cases(rt: &impl Input) -> u32 {
     let mut bytes = [0u8; 2];
-    io::read_full(STDIN_FILENO, &mut bytes);
+    read_full(rt, &mut bytes);
     big_endian(0, 0, bytes[0], bytes[1])
 }
 
-pub fn replayed() -> Case {
+pub fn replayed(rt: &impl Input) -> Case {
     let mut front = [0u8; 14];
-    io::read_full(STDIN_FILENO, &mut front);
+    read_full(rt, &mut front);
     let original = recorded(&front);
-    let ours = answered(front[7], front[0], stream(&front));
+    let ours = answered(rt, front[7], front[0], stream(&front));
     Case {
         ours: ours,
         original: original,
@@ -24,14 +24,14 @@ pub fn replayed() -> Case {
 }
 
 // The packet follows its front.
-fn answered(length: u8, width: u8, s: StreamInfo) -> Reply {
+fn answered(rt: &impl Input, length: u8, width: u8, s: StreamInfo) -> Reply {
     let mut bytes = [0u8; 256];
     let n = length as usize;
-    answered_in(&mut bytes[..n], width, s)
+    answered_in(rt, &mut bytes[..n], width, s)
 }
 
-fn answered_in(packet: &mut [u8], width: u8, s: StreamInfo) -> Reply {
-    io::read_full(STDIN_FILENO, packet);
+fn answered_in(rt: &impl Input, packet: &mut [u8], width: u8, s: StreamInfo) -> Reply {
+    read_full(rt, packet);
     if width == 2 {
         reply_i16(packet, s)
     } else {
@@ -69,4 +69,10 @@ fn wide(byte: u8) -> u32 {
 
 fn big_endian(a: u8, b: u8, c: u8, d: u8) -> u32 {
     ((a as u32 * 256 + b as u32) * 256 + c as u32) * 256 + d as u32
+}
+
+// Where the list ends early, the places that are left stay zero.
+fn read_full(rt: &impl Input, places: &mut [u8]) {
+    let mut input = rt.reader();
+    let _ = input.read_exact(places);
 }

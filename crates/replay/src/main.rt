@@ -5,16 +5,16 @@ mod answers;
 mod cases;
 mod report;
 
-fn main() {
-    let mut left = cases::number_of_cases();
+use std::io;
+
+fn main(rt: HostRuntime) -> io::Result<()> {
     let mut counts = report::Counts {
         answers: 0,
         accepted: 0,
         differ: 0,
     };
-    while left > 0 {
-        counts = report::add(counts, cases::replayed());
-        left -= 1;
+    for _ in 0..cases::number_of_cases(&rt) {
+        counts = report::add(&rt, counts, cases::replayed(&rt))?;
     }
-    report::total(counts);
+    report::total(&rt, counts)
 }

@@ -1,39 +1,40 @@
 // A line for each hundred answers, one for each that differs, and the total.
 use crate::answers::Reply;
-use libc::STDOUT_FILENO;
-use std::num::wrapping_add_u64;
+use std::io;
 
-#[derive(Drop)]
+#[derive(Clone, Copy)]
 pub struct Case {
     pub ours: Reply,
     pub original: Reply,
 }
 
-#[derive(Drop)]
+#[derive(Clone, Copy)]
 pub struct Counts {
     pub answers: u64,
     pub accepted: u64,
     pub differ: u64,
 }
 
-pub fn add(counts: Counts, case: Case) -> Counts {
+pub fn add(rt: &impl Print, counts: Counts, case: Case) -> io::Result<Counts> {
     let next = Counts {
-        answers: wrapping_add_u64(counts.answers, 1),
-        accepted: wrapping_add_u64(counts.accepted, one_if(case.original.number == 0)),
-        differ: wrapping_add_u64(counts.differ, one_if(differs(case))),
+        answers: counts.answers.wrapping_add(1),
+        accepted: counts
+            .accepted
+            .wrapping_add(one_if(case.original.number == 0)),
+        differ: counts.differ.wrapping_add(one_if(differs(case))),
     };
     if differs(case) {
-        complain(next.answers, case);
+        complain(rt, next.answers, case)?;
     }
     if next.answers % 100 == 0 {
-        so_far(next);
+        so_far(rt, next)?;
     }
-    next
+    Ok(next)
 }
 
-pub fn total(counts: Counts) {
-    write(b"in all ");
-    so_far(counts);
+pub fn total(rt: &impl Print, counts: Counts) -> io::Result<()> {
+    print!(rt; "in all ")?;
+    so_far(rt, counts)
 }
 
 fn one_if(yes: bool) -> u64 {
@@ -46,33 +47,24 @@ fn differs(case: Case) -> bool {
         || case.ours.sum != case.original.sum
 }
 
-fn complain(answer: u64, case: Case) {
-    write(b"answer ");
-    io::print_decimal(STDOUT_FILENO, answer);
-    write(b" differs: ");
-    show(case.ours);
-    write(b", and should be ");
-    show(case.original);
-    write(b"\n");
+fn complain(rt: &impl Print, answer: u64, case: Case) -> io::Result<()> {
+    print!(rt; "answer {answer} differs: ")?;
+    show(rt, case.ours)?;
+    print!(rt; ", and should be ")?;
+    show(rt, case.original)?;
+    print!(rt; "\n")
 }
 
-fn show(reply: Reply) {
-    io::print_decimal(STDOUT_FILENO, reply.number as u64);
-    write(b" count ");
-    io::print_decimal(STDOUT_FILENO, reply.count);
-    write(b" checksum ");
-    io::print_decimal(STDOUT_FILENO, reply.sum as u64);
+fn show(rt: &impl Print, reply: Reply) -> io::Result<()> {
+    print!(rt;
+        "{} count {} checksum {}",
+        reply.number, reply.count, reply.sum
+    )
 }
 
-fn so_far(counts: Counts) {
-    io::print_decimal(STDOUT_FILENO, counts.answers);
-    write(b" answers, ");
-    io::print_decimal(STDOUT_FILENO, counts.accepted);
-    write(b" accepted, ");
-    io::print_decimal(STDOUT_FILENO, counts.differ);
-    write(b" differ\n");
-}
-
-fn write(text: &[u8]) {
-    io::write_all(STDOUT_FILENO, text);
+fn so_far(rt: &impl Print, counts: Counts) -> io::Result<()> {
+    println!(rt;
+        "{} answers, {} accepted, {} differ",
+        counts.answers, counts.accepted, counts.differ
+    )
 }

@@ -1,6 +1,5 @@
 -- What the stream, the reader, the writer and the text of the settings say of lengths.
-use Rattle.std.proofs.Common.{◌≡◌, ℕ, ◌*◌, ◌/◌, ◌≤◌, true, List, ◌++◌, length, take, drop, ℤ, sym, refl, ap, ◌∙◌, mul-le-mul_right, mul-le-mul, div-mul-le_self, mul_left_comm, arith, length-append, length-drop, length-take-le}
-use Rattle.io.specs.Counts.{IsPrefixLen}
+use Rattle.std.proofs.Common.{◌≡◌, ℕ, ◌≤◌, true, List, ◌++◌, length, take, drop, ℤ, refl, ap, ◌∙◌, mul-le-mul_right, mul-le-mul, arith, length-append, length-drop, length-take-le}
 use Rattle.rules.specs.declared.Place.{Place}
 use Rattle.rules.specs.declared.StreamInfo.{StreamInfo}
 use Rattle.rules.specs.declared.PackingSettings.{PackingSettings}
@@ -21,24 +20,7 @@ use Rattle.theorems.specs.Refused.{Cause, all_hold, refused_when}
 use Rattle.text.specs.declared.Numbers.{Numbers}
 use Rattle.text.specs.declared.Numbers.TheVariants.{Many}
 use Rattle.text.specs.Text.{Read, whole, wrong, full, numbers_of, Tells}
-use Rattle.walk.specs.Held.{Small, Pairs}
-
--- ---- counts
-
-pub counts : (n : ℕ) (xs : List ℕ) → n ≤ length xs → IsPrefixLen n xs
-counts n xs h = (h, sym (length-take-le n xs h))
-
--- a part of n places came back as long as it went
-pub back_le : {A : Type 0} (n k : ℕ) (xs ys : List A) → n ≤ length xs → length ys ≡ length (take n xs) → k ≤ length xs → k ≤ length (ys ++ drop n xs)
-back_le n k xs ys h e l = simp (length-append, length-drop) (omega (arith, length-take-le n xs h))
-
--- what is asked of the first k places
-module _ {A : Type 0} (k : ℕ) (xs : List A) (h : k ≤ length xs) where
-  pub taken_half : (n : ℕ) → n ≡ 2 * k → n ≡ 2 * length (take k xs)
-  taken_half n e = rw (length-take-le k xs h) e
-
-  pub taken_pairs : (m : ℕ) → Pairs m k → Pairs m (length (take k xs))
-  taken_pairs m p = rw (length-take-le k xs h) p
+use Rattle.walk.specs.Held.{Small}
 
 -- ---- the stream
 
@@ -50,18 +32,17 @@ small w s e =
 pub places_le : (s : StreamInfo) → Small s → output_places s ≤ 32768
 places_le s h = mul-le-mul h.frame_le h.channels_le
 
--- ---- the bytes of whole samples
-
-part_le : (g c : ℕ) → 2 * (g / (2 * c) * c) ≤ g
-part_le g c = omega (arith, div-mul-le_self g (2 * c), mul_left_comm (g / (2 * c)) 2 c)
-
-pub part_fits : (g c : ℕ) → g / (2 * c) * c ≤ g
-part_fits g c = omega (arith, part_le g c)
-
-pub part_pairs : (g c : ℕ) → Pairs g (2 * (g / (2 * c) * c))
-part_pairs g c = record { le = part_le g c; even = omega arith }
-
 -- ---- the reader and the writer
+
+-- a part of n places came back as long as it went
+pub back_le : {A : Type 0} (n k : ℕ) (xs ys : List A) → n ≤ length xs → length ys ≡ length (take n xs) → k ≤ length xs → k ≤ length (ys ++ drop n xs)
+back_le n k xs ys h e l = simp (length-append, length-drop) (omega (arith, length-take-le n xs h))
+
+-- the samples of a packet lie in the memory that they came back to
+pub passage_le : (s : StreamInfo) → Small s → {n : ℕ} (xs ys : List ℤ) → 32768 ≡ length xs → length ys ≡ length (take (output_places s) xs) → n ≤ output_places s → n ≤ length (ys ++ drop (output_places s) xs)
+passage_le s h {n} xs ys e f l =
+    let fit = places_le s h in
+    back_le (output_places s) n xs ys (omega arith) f (omega arith)
 
 -- an accepted packet has no more samples than a frame
 pub read_le : {w : Width} {s : StreamInfo} {bytes : List ℕ} {out out' scr scr' : List ℤ} {n : ℕ} {at : Place} {r : Answer}

@@ -1,11 +1,14 @@
 -- What the parts of the program hold of each other: counts that lie within the places, and lengths that fit the stream.
-use Rattle.std.specs.Prelude.{◌≡◌, ℕ, ◌*◌, ◌/◌, ◌≤◌, List, length, ℤ}
-use Rattle.io.specs.Counts.{IsPrefixLen}
+use Rattle.std.specs.Prelude.{◌≡◌, ℕ, ◌*◌, ◌/◌, ◌≤◌, List, length, take, ℤ}
 use Rattle.rules.specs.declared.StreamInfo.{StreamInfo}
 use Rattle.walk.specs.declared.files.Loaded.{Loaded}
 use Rattle.walk.specs.declared.files.Loaded.TheVariants.{Filled, Failed}
 use Rattle.walk.specs.declared.packets.Found.{Found}
 use Rattle.walk.specs.declared.packets.Found.TheVariants.{Packet, End, Stop}
+
+-- n of the places, from their start; the second part follows from the first, and spares a lent part its proof
+abbrev pub IsPrefixLen : ℕ → List ℕ → Type 0
+IsPrefixLen n places = (n ≤ length places) × (n ≡ length (take n places))
 
 -- as many of the places are filled
 abbrev pub Holds : Loaded → List ℕ → Type 0

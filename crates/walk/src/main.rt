@@ -15,13 +15,17 @@
 #![tactic(auto)]
 
 mod files;
+mod input;
 mod packets;
 mod packing;
 mod reading;
 mod room;
 mod say;
 
-#[derive(Drop)]
+use std::env::FillError;
+use std::rt::Env;
+
+#[derive(Clone, Copy)]
 enum Command {
     Pack,
     Unpack,
@@ -43,14 +47,31 @@ fn command_of(word: &[u8], words: usize) -> Command {
     Command::Unknown
 }
 
-fn main() {
-    let mut word = io::buffer();
-    let n = os::arg(1, &mut word);
-    let command = command_of(&word[..n], os::arg_count());
-    match command {
-        Command::Pack => packing::pack(),
-        Command::Unpack => reading::unpack(),
-        Command::Check => reading::check(),
-        Command::Unknown => say::usage(),
+// How many words there are, the program's name among them, and 5 where there are more.
+fn count_words(rt: &impl Env) -> usize {
+    for i in 0..5 {
+        let mut byte = [0u8; 1];
+        if let Err(FillError::NotPresent) = rt.arg(i, &mut byte) {
+            return i;
+        }
+    }
+    5
+}
+
+// A word that is missing, or too long for a command, is no command.
+fn read_command(rt: &impl Env) -> Command {
+    let mut word = [0u8; 6];
+    match rt.arg(1, &mut word) {
+        Ok(n) => command_of(&word[..n], count_words(rt)),
+        Err(_) => Command::Unknown,
+    }
+}
+
+fn main(rt: HostRuntime) {
+    match read_command(&rt) {
+        Command::Pack => packing::pack(&rt),
+        Command::Unpack => reading::unpack(&rt),
+        Command::Check => reading::check(&rt),
+        Command::Unknown => say::usage(&rt),
     }
 }

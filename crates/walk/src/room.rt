@@ -13,6 +13,13 @@ pub fn scratch() -> [i32; 8192]
     [0i32; 8192]
 }
 
+// Whole samples of a frame, as bytes; and the text of the settings.
+pub fn bytes() -> [u8; 65536]
+    ensures { 65536 ≡ length result }
+{
+    [0u8; 65536]
+}
+
 pub fn packet() -> [u8; 262144]
     ensures { 262144 ≡ length result }
 {

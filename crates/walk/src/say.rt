@@ -1,9 +1,8 @@
-// What the program says, all of it on standard error.
-use libc::STDERR_FILENO;
-use std::num::wrapping_add_u64;
+// What the program says, all of it on standard error. Where that cannot be written, the program goes on without a word.
+use std::io;
 
 // The packets that are done, and how many of them were refused.
-#[derive(Drop)]
+#[derive(Clone, Copy)]
 pub struct Counts {
     pub packets: u64,
     pub refused: u64,
@@ -18,79 +17,71 @@ pub fn none() -> Counts {
 
 pub fn one_more(counts: Counts) -> Counts {
     Counts {
-        packets: wrapping_add_u64(counts.packets, 1),
+        packets: counts.packets.wrapping_add(1),
         refused: counts.refused,
     }
 }
 
 // The next packet is refused, with this number of document 01.
-pub fn refused(counts: Counts, number: u32) -> Counts {
-    let packet = wrapping_add_u64(counts.packets, 1);
-    text(b"walk: packet ");
-    decimal(packet);
-    text(b" refused: ");
-    decimal(number as u64);
-    text(b"\n");
+pub fn refused(rt: &impl Eprint, counts: Counts, number: u32) -> Counts {
+    let packet = counts.packets.wrapping_add(1);
+    let _ = eprintln!(rt; "walk: packet {packet} refused: {number}");
     Counts {
         packets: packet,
-        refused: wrapping_add_u64(counts.refused, 1),
+        refused: counts.refused.wrapping_add(1),
     }
 }
 
-pub fn done(counts: Counts) {
-    text(b"walk: ");
-    decimal(counts.packets);
-    text(b" packets, ");
-    decimal(counts.refused);
-    text(b" refused\n");
-}
-
-pub fn stopping(packets: u64) {
-    text(b"walk: stopped after ");
-    decimal(packets);
-    text(b" packets: ");
-}
-
-pub fn stopped(packets: u64, why: &[u8]) {
-    stopping(packets);
-    text(why);
-    text(b"\n");
-}
-
-pub fn stopped_with(packets: u64, why: &[u8], number: u64) {
-    stopping(packets);
-    text(why);
-    decimal(number);
-    text(b"\n");
-}
-
-pub fn too_long(name: &[u8], most: u64) {
-    stopping(0);
-    text(name);
-    text(b" is longer than ");
-    decimal(most);
-    text(b" bytes\n");
-}
-
-pub fn usage() {
-    text(b"usage: walk pack COOKIE SETTINGS < samples > packets\n");
-    text(b"       walk unpack COOKIE < packets > samples\n");
-    text(b"       walk check COOKIE < packets\n");
-    text(
-        b"COOKIE and SETTINGS are names of files. Samples are 16 bits, little-endian. A packet has its length in front, 32 bits, big-endian.\n",
-    );
-    text(
-        b"check writes a line a packet: document 01's number (0: accepted) and the count of samples. Packets are counted from 1.\n",
-    );
-    text(
-        b"There is no exit status: the last line is 'walk: N packets, M refused', or 'walk: stopped after N packets: WHY'.\n",
+pub fn done(rt: &impl Eprint, counts: Counts) {
+    let _ = eprintln!(rt;
+        "walk: {} packets, {} refused",
+        counts.packets, counts.refused
     );
 }
 
-fn text(bytes: &[u8]) {
-    io::write_all(STDERR_FILENO, bytes);
+fn stopping(rt: &impl Eprint, packets: u64) {
+    let _ = eprint!(rt; "walk: stopped after {packets} packets: ");
 }
 
-fn decimal(n: u64) {
-    io::print_decimal(STDERR_FILENO, n);
+pub fn stopped(rt: &impl Eprint, packets: u64, why: &str) {
+    stopping(rt, packets);
+    let _ = eprintln!(rt; "{why}");
+}
+
+pub fn stopped_with(rt: &impl Eprint, packets: u64, why: &str, number: u64) {
+    stopping(rt, packets);
+    let _ = eprintln!(rt; "{why}{number}");
+}
+
+pub fn too_long(rt: &impl Eprint, name: &str, most: u64) {
+    stopping(rt, 0);
+    let _ = eprintln!(rt; "{name} is longer than {most} bytes");
+}
+
+// Why a file cannot be read, in the system's words: std has its number behind them.
+pub fn failed(rt: &(impl Alloc + Eprint), name: &str, error: io::Error) {
+    stopping(rt, 0);
+    let words = format!(in rt.alloc(); "{error}");
+    let _ = match words {
+        Ok(words) => match words.as_str().split_once(" (os error ") {
+            Some((words, _)) => eprintln!(rt; "{name}: {words}"),
+            None => eprintln!(rt; "{name}: {words}"),
+        },
+        Err(_) => eprintln!(rt; "{name}: {error}"),
+    };
+}
+
+pub fn usage(rt: &impl Eprint) {
+    let _ = eprintln!(rt; "usage: walk pack COOKIE SETTINGS < samples > packets");
+    let _ = eprintln!(rt; "       walk unpack COOKIE < packets > samples");
+    let _ = eprintln!(rt; "       walk check COOKIE < packets");
+    let _ = eprintln!(rt;
+        "COOKIE and SETTINGS are names of files. Samples are 16 bits, little-endian. A packet has its length in front, 32 bits, big-endian."
+    );
+    let _ = eprintln!(rt;
+        "check writes a line a packet: document 01's number (0: accepted) and the count of samples. Packets are counted from 1."
+    );
+    let _ = eprintln!(rt;
+        "There is no exit status: the last line is 'walk: N packets, M refused', or 'walk: stopped after N packets: WHY'."
+    );
 }
