@@ -10,7 +10,7 @@ use Rattle.rules.specs.declared.Packed.TheVariants.{Accepted}
 use Rattle.rules.specs.Bits.{bits_of}
 use Rattle.rules.specs.Stream.{Width, accepted, output_places}
 use Rattle.laws.specs.Buffers.{laid-length}
-use Rattle.laws.specs.Tests.{AcceptedFields, accepted_fields}
+use Rattle.laws.specs.Tests.{accepted_fields}
 use Rattle.laws.specs.Shape.{all_got}
 use Rattle.laws.specs.Reader.{packet_shaped}
 use Rattle.dec.specs.Promise as dec
