@@ -11,7 +11,7 @@ test: kit
 
 readings: kit
 	@mkdir -p target; cd crates/readings && rt run <stdin >../../target/readings.stdout 2>../../target/readings.log || { cat ../../target/readings.log ../../target/readings.stdout; exit 1; }
-	@cat target/readings.stdout
+	@cat target/readings.stdout; cmp -s target/readings.stdout crates/readings/stdout
 
 walk: kit
 	@tools/walk

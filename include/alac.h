@@ -4,7 +4,7 @@
  * writes into overlaps nothing else that it is handed. Each function returns 0, or the number in document 01's table
  * that says why not. Nothing is kept between calls, so any number of threads may call at once.
  *
- * Link with the archive that `rt staticlib alac` writes, target/staticlib/libalac.a. */
+ * Link with the archive that tools/archive makes, target/archive/libalac.a. */
 #ifndef ALAC_H
 #define ALAC_H
 
