@@ -3,21 +3,18 @@
 
 ghost use Rattle.std.specs.Prelude.{◌≡◌, [], ◌∷◌};
 ghost use Rattle.rules.specs.Refusals.{read_number, read_count, packed_number, packed_count};
-ghost use Rattle.rules.specs.Stream.{i16_output, i32_output};
 ghost use Rattle.alac.specs.Boundary.{Told, Handed, Worded, Written, fields_of};
 
-use dec::{decode_packet_i16, decode_packet_i32};
+use dec::decode_packet;
 use enc::encode_packet_i16;
-use rules::{Answer, CookieAnswer, Packed, StreamInfo, number_of};
+use rules::{Decoded, Refusal, Refused, StreamInfo};
 use settings::settings_of;
-use stream::from_cookie;
+use stream::{Sample, from_cookie};
 
 // The fields in StreamInfo's order.
 fn fields_of(s: StreamInfo) -> [u64; 11]
     ensures { result ≡ fields_of s }
 {
-    let avg_bit_rate = s.avg_bit_rate;
-    let sample_rate = s.sample_rate;
     [
         s.frame_length as u64,
         s.compatible_version as u64,
@@ -28,25 +25,24 @@ fn fields_of(s: StreamInfo) -> [u64; 11]
         s.num_channels as u64,
         s.max_run as u64,
         s.max_frame_bytes as u64,
-        avg_bit_rate as u64,
-        sample_rate as u64,
+        s.avg_bit_rate as u64,
+        s.sample_rate as u64,
     ]
 }
 
 pub fn alac_stream_info(cookie: &[u8], fields: &mut [u64; 11]) -> u32
     ensures { Told cookie.now fields.old fields.new result }
 {
-    let read = from_cookie(cookie);
-    match read {
-        CookieAnswer::Refused(refusal) => number_of(refusal),
-        CookieAnswer::Info(s) => {
+    match from_cookie(cookie) {
+        Err(refusal) => u32::from(refusal),
+        Ok(s) => {
             *fields = fields_of(s);
             0
         }
     }
 }
 
-// The words of an answer, and its number.
+// The words of an answer, and its number, as C takes them.
 fn tell(answer: &mut [u64; 4], number: u32, count: usize) -> u32
     ensures { Worded number count answer.new result }
 {
@@ -54,53 +50,37 @@ fn tell(answer: &mut [u64; 4], number: u32, count: usize) -> u32
     number
 }
 
-fn tell_answer(answer: &mut [u64; 4], a: Answer) -> u32
-    ensures { Worded (read_number a) (read_count a) answer.new result }
+fn tell_read(answer: &mut [u64; 4], read: Result<Decoded, Refused>) -> u32
+    ensures { Worded (read_number read) (read_count read) answer.new result }
 {
-    match a {
-        Answer::Accepted(count, _) => tell(answer, 0, count),
-        Answer::Refused(refusal, _) => tell(answer, number_of(refusal), 0),
+    match read {
+        Ok(decoded) => tell(answer, 0, decoded.count),
+        Err(refused) => tell(answer, u32::from(refused.refusal), 0),
     }
 }
 
-pub fn alac_decode_packet_i16(
+// A packet for any kind of output.
+pub fn alac_decode_packet<S: Sample>(
     cookie: &[u8],
     packet: &[u8],
-    out: &mut [i16],
+    out: &mut [S],
     scratch: &mut [i32],
     answer: &mut [u64; 4],
 ) -> u32
-    ensures { Handed i16_output cookie.now packet.now out.old out.new scratch.old scratch.new answer.new result }
+    ensures { Handed S.output cookie.now packet.now out.old out.new scratch.old scratch.new answer.new result }
 {
-    let read = from_cookie(cookie);
-    match read {
-        CookieAnswer::Refused(refusal) => tell(answer, number_of(refusal), 0),
-        CookieAnswer::Info(s) => tell_answer(answer, decode_packet_i16(packet, s, out, scratch)),
+    match from_cookie(cookie) {
+        Err(refusal) => tell(answer, u32::from(refusal), 0),
+        Ok(s) => tell_read(answer, decode_packet(packet, s, out, scratch)),
     }
 }
 
-pub fn alac_decode_packet_i32(
-    cookie: &[u8],
-    packet: &[u8],
-    out: &mut [i32],
-    scratch: &mut [i32],
-    answer: &mut [u64; 4],
-) -> u32
-    ensures { Handed i32_output cookie.now packet.now out.old out.new scratch.old scratch.new answer.new result }
+fn tell_packed(answer: &mut [u64; 4], packed: Result<usize, Refusal>) -> u32
+    ensures { Worded (packed_number packed) (packed_count packed) answer.new result }
 {
-    let read = from_cookie(cookie);
-    match read {
-        CookieAnswer::Refused(refusal) => tell(answer, number_of(refusal), 0),
-        CookieAnswer::Info(s) => tell_answer(answer, decode_packet_i32(packet, s, out, scratch)),
-    }
-}
-
-fn tell_packed(answer: &mut [u64; 4], p: Packed) -> u32
-    ensures { Worded (packed_number p) (packed_count p) answer.new result }
-{
-    match p {
-        Packed::Accepted(count) => tell(answer, 0, count),
-        Packed::Refused(refusal) => tell(answer, number_of(refusal), 0),
+    match packed {
+        Ok(count) => tell(answer, 0, count),
+        Err(refusal) => tell(answer, u32::from(refusal), 0),
     }
 }
 
@@ -114,10 +94,9 @@ pub fn alac_encode_packet_i16(
 ) -> u32
     ensures { Written cookie.now settings.now passage.now bytes.old bytes.new scratch.old scratch.new answer.new result }
 {
-    let read = from_cookie(cookie);
-    match read {
-        CookieAnswer::Refused(refusal) => tell(answer, number_of(refusal), 0),
-        CookieAnswer::Info(s) => {
+    match from_cookie(cookie) {
+        Err(refusal) => tell(answer, u32::from(refusal), 0),
+        Ok(s) => {
             let t = settings_of(settings, s.num_channels);
             tell_packed(answer, encode_packet_i16(s, t, passage, bytes, scratch))
         }

@@ -1,4 +1,4 @@
-// The exported functions of libalac.a, each the one of crate alac under its name. A slice is a pointer and a length; an array is a pointer.
+// The exported functions of libalac.a, each the one of crate alac. A slice is a pointer and a length; an array is a pointer. C has no generics, so each kind of output has a function.
 #![tactic(auto)]
 
 ghost use Rattle.rules.specs.Stream.{i16_output, i32_output};
@@ -21,7 +21,7 @@ pub extern "C" fn alac_decode_packet_i16(
 ) -> u32
     ensures { Handed i16_output cookie.now packet.now out.old out.new scratch.old scratch.new answer.new result }
 {
-    alac::alac_decode_packet_i16(cookie, packet, out, scratch, answer)
+    alac::alac_decode_packet::<i16>(cookie, packet, out, scratch, answer)
 }
 
 #[unsafe(no_mangle)]
@@ -34,7 +34,7 @@ pub extern "C" fn alac_decode_packet_i32(
 ) -> u32
     ensures { Handed i32_output cookie.now packet.now out.old out.new scratch.old scratch.new answer.new result }
 {
-    alac::alac_decode_packet_i32(cookie, packet, out, scratch, answer)
+    alac::alac_decode_packet::<i32>(cookie, packet, out, scratch, answer)
 }
 
 #[unsafe(no_mangle)]

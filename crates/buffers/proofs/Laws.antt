@@ -2,7 +2,7 @@
 use Prim.Native.Nat.{ℕ, zero, suc, ◌+◌, ◌*◌, ◌≤◌, ◌<◌}
 use mathlib.Core.Path.{◌≡◌, refl, sym, ap, ◌∙◌}
 use mathlib.Core.List.{List, [], ◌∷◌, ◌++◌, map}
-use native.Mathlib.Nat.{zero-mul, suc-mul, mul-le-mul_right}
+use native.Mathlib.Nat.{zero-mul, suc-mul, add-zero, mul-le-mul_right}
 use native.Mathlib.Numerals.{add-one}
 use native.Mathlib.Omega.{arith}
 use lib.ListN.{length, get_or, drop, set, length-set, drop_of_length-le}
@@ -40,32 +40,31 @@ module _ {A : Type 0} (z : A) where
 -- ---- storing
 
 module _ {A B : Type 0} (keep : A → B) (z : A) (c first : ℕ) (from : List A) (was : List B) where
-  -- the first i samples are stored, and the next one belongs to the place k
-  pub record Storing (out : List B) (k i : ℕ) : Type 0 where
+  -- the first i samples are stored: the others, placed from here on, make what all of them make from the start
+  pub record Storing (out : List B) (i : ℕ) : Type 0 where
     pub i_le : i ≤ length from
     pub same : length out ≡ length was
-    pub k_is : k ≡ first + i * c
-    pub go : placed c k (map keep (drop i from)) out ≡ placed c first (map keep from) was
+    pub go : placed c (first + i * c) (map keep (drop i from)) out ≡ placed c first (map keep from) was
 
-  pub storing_start : Storing was first 0
-  storing_start = record { i_le = omega arith; same = refl; k_is = omega (arith, zero-mul c); go = refl }
+  pub storing_start : Storing was 0
+  storing_start = record { i_le = omega arith; same = refl; go = rw (zero-mul c, add-zero first) refl }
 
-  module _ (out : List B) (k i : ℕ) (g : Storing out k i) where
-    -- the place lies in the output, and the next one within twice its length
-    pub storing_in : first < c → length from * c ≤ length was → i < length from → (k < length out) × (k + c ≤ 2 * length out)
+  module _ (out : List B) (i : ℕ) (g : Storing out i) where
+    -- the place lies in the output
+    pub storing_in : first < c → length from * c ≤ length was → i < length from → first + i * c < length out
     storing_in f r h =
         let e : suc i * c ≤ length from * c = mul-le-mul_right c h in
         let d = suc-mul i c in
-        (omega (arith, g.same, g.k_is), omega (arith, g.same, g.k_is))
+        omega (arith, g.same)
 
-    pub storing_next : (y : B) → i < length from → y ≡ keep (get_or from i z) → Storing (set out k y) (k + c) (i + 1)
+    pub storing_next : (y : B) → i < length from → y ≡ keep (get_or from i z) → Storing (set out (first + i * c) y) (i + 1)
     unfolding placed
     storing_next y h e =
+        let k : first + suc i * c ≡ first + i * c + c = omega (arith, suc-mul i c) in
         record {
           i_le = omega arith;
-          same = length-set out k y ∙ g.same;
-          k_is = rw add-one (omega (arith, g.k_is, suc-mul i c));
-          go = rw (add-one, e) (rw (drop-cons from i z h) at g.go);
+          same = length-set out (first + i * c) y ∙ g.same;
+          go = rw (add-one, e, k) (rw (drop-cons from i z h) at g.go);
         }
 
     pub storing_done : length from ≤ i → out ≡ placed c first (map keep from) was

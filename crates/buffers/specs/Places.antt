@@ -2,7 +2,7 @@
 use Rattle.std.specs.Prelude.{ℕ, ◌*◌, ◌≤◌, ◌<◌, List, length, ℤ}
 
 -- channel `first` of so many has places for its samples, and 32 bits hold a sample of this depth
-pub record Places (depth first channels : ℕ) (from out : List ℤ) : Type 0 where
+pub record Places {A : Type 0} (depth first channels : ℕ) (from : List ℤ) (out : List A) : Type 0 where
   pub one_of : first < channels
   pub room : length from * channels ≤ length out
   pub depth_from : 1 ≤ depth

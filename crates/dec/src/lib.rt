@@ -1,35 +1,18 @@
-// A packet read whole, for `i16` and for `i32` output.
+// A packet read whole, for every kind of output.
 #![tactic(auto)]
 
-ghost use Rattle.std.specs.Prelude.{◌≡◌, map, ◌≤◌, length, pos};
-ghost use Rattle.rules.specs.Bits.{bit_of, bits_of};
-ghost use Rattle.rules.specs.Stream.{i16_output, i32_output, scratch_places};
-ghost use Rattle.rules.specs.Buffers.{cleared, stored};
-ghost use Rattle.rules.specs.Packet.{turn};
+ghost use Rattle.std.specs.Prelude.{◌≡◌, map, length};
+ghost use Rattle.rules.specs.Buffers.{stored};
 ghost use Rattle.rules.specs.Reader as reader;
 ghost use Rattle.buffers.specs.Halves.{parts};
-ghost use Rattle.dec_packet.specs.Told.{Sane};
 ghost use Rattle.dec.specs.Promise.{Promise};
-ghost use Rattle.dec.specs.Told.{Judges, Readable, Layable, Follows, Steppable, Steps, Finished};
+ghost use Rattle.dec.specs.Told.{judgement, Readable, Layable, Finished};
 
-use buffers::{clear_i16, clear_i32, store_i16, store_i32};
+use bitcursor::BitCursor;
+use buffers::{clear, store};
 use dec_packet::{Element, State, next_element};
-use rules::{Answer, Place, Refusal, Samples, StreamInfo};
-use stream::{accepted, takes_i16, takes_i32};
-
-// The reader after an element: at the next one, or at the packet's answer.
-#[derive(Clone, Copy)]
-pub enum Step {
-    More(State),
-    Done(Answer),
-}
-
-// 2 and 3, judged before any bit is read.
-#[derive(Clone, Copy)]
-pub enum Judged {
-    Fit,
-    Unfit(Refusal),
-}
+use rules::{Decoded, Refusal, Refused, StreamInfo};
+use stream::{Sample, accepts};
 
 fn roomy(s: StreamInfo, out: usize, scratch: usize) -> bool
     ensures { result ≡ reader.roomy s out scratch }
@@ -39,199 +22,91 @@ fn roomy(s: StreamInfo, out: usize, scratch: usize) -> bool
     (frame * channels <= out) & (2 * frame <= scratch)
 }
 
-// 2, then 3.
-fn judge(s: StreamInfo, taken: bool, out: usize, scratch: usize) -> Judged
-    ensures { Judges s taken out scratch result }
+// 2, then 3, before any bit is read.
+fn judge<S: Sample>(s: StreamInfo, out: usize, scratch: usize) -> Result<(), Refusal>
+    ensures { result ≡ judgement S.output s out scratch }
 {
-    let stream = accepted(s, taken);
+    let stream = accepts::<S>(s);
     let room = roomy(s, out, scratch);
     if !stream {
-        return Judged::Unfit(Refusal::Stream);
+        return Err(Refusal::Stream);
     }
     if !room {
-        return Judged::Unfit(Refusal::Room);
+        return Err(Refusal::Room);
     }
-    Judged::Fit
-}
-
-fn clear_scratch(s: StreamInfo, scratch: &mut [i32])
-    requires { scratch_places s ≤ length scratch.old }
-    ensures { scratch.new ≡ cleared (pos 0) (scratch_places s) scratch.old }
-{
-    let half = s.frame_length as usize;
-    clear_i32(scratch, 2 * half);
-}
-
-fn next_step(s: StreamInfo, st: State, element: Element) -> Step
-    requires { Sane s st.channels element }
-    ensures { Follows s st element result }
-{
-    let channels = st.channels;
-    let samples = st.samples;
-    match element {
-        Element::Audio(w, n, p) => Step::More(State {
-            at: p,
-            channels: channels + w,
-            samples: Samples::Known(n),
-        }),
-        Element::Passed(p) => Step::More(State {
-            at: p,
-            channels: channels,
-            samples: samples,
-        }),
-        Element::End(n, p) => {
-            let count = n as usize * s.num_channels as usize;
-            Step::Done(Answer::Accepted(count, p))
-        }
-        Element::Refused(x, p) => Step::Done(Answer::Refused(x, p)),
-    }
+    Ok(())
 }
 
 // The channels of an element, from `so_far` on, into their places.
-fn lay_i16(scratch: &[i32], out: &mut [i16], s: StreamInfo, so_far: u32, w: u32, n: u32)
+fn lay<S: Sample>(scratch: &[i32], out: &mut [S], s: StreamInfo, so_far: u32, w: u32, n: u32)
     requires { Layable s so_far w n scratch.now out.old }
-    ensures { out.new ≡ stored s.num_channels so_far (map (map (i16_output.keep s.bit_depth)) (parts s.frame_length n w scratch.now)) out.old }
+    ensures { out.new ≡ stored s.num_channels so_far (map (map (S.output.keep s.bit_depth)) (parts s.frame_length n w scratch.now)) out.old }
 {
     let count = n as usize;
     let half = s.frame_length as usize;
     let first = so_far as usize;
     let channels = s.num_channels as usize;
-    store_i16(&scratch[..count], out, first, channels);
+    store(&scratch[..count], out, first, channels, s.bit_depth);
     if w == 1 {
         return;
     }
     let end = half + count;
-    store_i16(&scratch[half..end], out, first + 1, channels);
-}
-
-fn lay_i32(scratch: &[i32], out: &mut [i32], s: StreamInfo, so_far: u32, w: u32, n: u32)
-    requires { Layable s so_far w n scratch.now out.old }
-    ensures { out.new ≡ stored s.num_channels so_far (map (map (i32_output.keep s.bit_depth)) (parts s.frame_length n w scratch.now)) out.old }
-{
-    let count = n as usize;
-    let half = s.frame_length as usize;
-    let first = so_far as usize;
-    let channels = s.num_channels as usize;
-    store_i32(&scratch[..count], out, first, channels, s.bit_depth);
-    if w == 1 {
-        return;
-    }
-    let end = half + count;
-    store_i32(&scratch[half..end], out, first + 1, channels, s.bit_depth);
-}
-
-// One element.
-fn step_i16(packet: &[u8], s: StreamInfo, st: State, out: &mut [i16], scratch: &mut [i32]) -> Step
-    requires { Steppable s st out.old scratch.old }
-    ensures { Steps i16_output s st (turn (bits_of packet.now) s st.channels st.samples (bit_of st.at)) out.old out.new scratch.old scratch.new result }
-{
-    let element = next_element(packet, s, st, scratch);
-    let Element::Audio(w, n, _) = element else {
-        return next_step(s, st, element);
-    };
-    lay_i16(scratch, out, s, st.channels, w, n);
-    next_step(s, st, element)
-}
-
-fn step_i32(packet: &[u8], s: StreamInfo, st: State, out: &mut [i32], scratch: &mut [i32]) -> Step
-    requires { Steppable s st out.old scratch.old }
-    ensures { Steps i32_output s st (turn (bits_of packet.now) s st.channels st.samples (bit_of st.at)) out.old out.new scratch.old scratch.new result }
-{
-    let element = next_element(packet, s, st, scratch);
-    let Element::Audio(w, n, _) = element else {
-        return next_step(s, st, element);
-    };
-    lay_i32(scratch, out, s, st.channels, w, n);
-    next_step(s, st, element)
+    store(&scratch[half..end], out, first + 1, channels, s.bit_depth);
 }
 
 // Element by element, until END or a refusal.
-fn read_all_i16(packet: &[u8], s: StreamInfo, out: &mut [i16], scratch: &mut [i32]) -> Answer
-    requires { Readable s out.old scratch.old }
-    ensures { Finished i16_output s packet.now out.old out.new scratch.old scratch.new result }
+fn read_all<S: Sample>(
+    bits: &mut BitCursor<'_>,
+    s: StreamInfo,
+    out: &mut [S],
+    scratch: &mut [i32],
+) -> Result<usize, Refusal>
+    requires start { bits.old.at ≡ 0 }
+    requires readable { Readable s out.old scratch.old }
+    ensures { Finished S.output s bits.old bits.new out.old out.new scratch.old scratch.new result }
 {
-    let start = Place { byte: 0, bit: 0 };
     let mut st = State {
-        at: start,
         channels: 0,
-        samples: Samples::Open,
+        samples: None,
     };
     loop {
-        let step = step_i16(packet, s, st, out, scratch);
-        match step {
-            Step::Done(answer) => return answer,
-            Step::More(next) => {
-                st = next;
+        let element = next_element(bits, s, st, scratch)?;
+        match element {
+            Element::Audio { channels, samples } => {
+                lay(scratch, out, s, st.channels, channels, samples);
+                st = State {
+                    channels: st.channels + channels,
+                    samples: Some(samples),
+                };
             }
+            Element::Passed => {}
+            Element::End(n) => return Ok(n as usize * s.num_channels as usize),
         }
     }
 }
 
-fn read_all_i32(packet: &[u8], s: StreamInfo, out: &mut [i32], scratch: &mut [i32]) -> Answer
-    requires { Readable s out.old scratch.old }
-    ensures { Finished i32_output s packet.now out.old out.new scratch.old scratch.new result }
+// Past 2 and 3, scratch ends as zeros; after a refusal there the output is silence.
+pub fn decode_packet<S: Sample>(
+    packet: &[u8],
+    s: StreamInfo,
+    out: &mut [S],
+    scratch: &mut [i32],
+) -> Result<Decoded, Refused>
+    ensures { Promise S.output s packet.now out.old out.new scratch.old scratch.new result }
 {
-    let start = Place { byte: 0, bit: 0 };
-    let mut st = State {
-        at: start,
-        channels: 0,
-        samples: Samples::Open,
-    };
-    loop {
-        let step = step_i32(packet, s, st, out, scratch);
-        match step {
-            Step::Done(answer) => return answer,
-            Step::More(next) => {
-                st = next;
-            }
+    let mut bits = BitCursor::new(packet);
+    if let Err(refusal) = judge::<S>(s, out.len(), scratch.len()) {
+        let at = bits.place();
+        return Err(Refused { refusal, at });
+    }
+    let answer = read_all(&mut bits, s, out, scratch);
+    clear(scratch, 2 * s.frame_length as usize);
+    let at = bits.place();
+    match answer {
+        Ok(count) => Ok(Decoded { count, at }),
+        Err(refusal) => {
+            clear(out, s.frame_length as usize * s.num_channels as usize);
+            Err(Refused { refusal, at })
         }
     }
-}
-
-pub fn decode_packet_i16(
-    packet: &[u8],
-    s: StreamInfo,
-    out: &mut [i16],
-    scratch: &mut [i32],
-) -> Answer
-    ensures { Promise i16_output s packet.now out.old out.new scratch.old scratch.new result }
-{
-    let start = Place { byte: 0, bit: 0 };
-    let judged = judge(s, takes_i16(s.bit_depth), out.len(), scratch.len());
-    if let Judged::Unfit(refusal) = judged {
-        return Answer::Refused(refusal, start);
-    }
-    let answer = read_all_i16(packet, s, out, scratch);
-    clear_scratch(s, scratch);
-    let Answer::Refused(_, _) = answer else {
-        return answer;
-    };
-    let frame = s.frame_length as usize;
-    let channels = s.num_channels as usize;
-    clear_i16(out, frame * channels);
-    answer
-}
-
-pub fn decode_packet_i32(
-    packet: &[u8],
-    s: StreamInfo,
-    out: &mut [i32],
-    scratch: &mut [i32],
-) -> Answer
-    ensures { Promise i32_output s packet.now out.old out.new scratch.old scratch.new result }
-{
-    let start = Place { byte: 0, bit: 0 };
-    let judged = judge(s, takes_i32(s.bit_depth), out.len(), scratch.len());
-    if let Judged::Unfit(refusal) = judged {
-        return Answer::Refused(refusal, start);
-    }
-    let answer = read_all_i32(packet, s, out, scratch);
-    clear_scratch(s, scratch);
-    let Answer::Refused(_, _) = answer else {
-        return answer;
-    };
-    let frame = s.frame_length as usize;
-    let channels = s.num_channels as usize;
-    clear_i32(out, frame * channels);
-    answer
 }

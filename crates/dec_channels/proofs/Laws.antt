@@ -1,163 +1,175 @@
--- How the channels of an element come together in scratch.
-use Prim.Native.Nat.{ℕ, ◌+◌, ◌-◌, ◌*◌, ◌≤◌, ◌<◌}
-use mathlib.Core.Path.{◌≡◌, refl, sym, ap, ◌∙◌}
-use mathlib.Core.Bool.{Bool, true, false, ◌||◌}
+-- How a channel comes of its Rice data, and how the channels of an element come together in scratch.
+use Prim.Native.Nat.{ℕ, ◌+◌, ◌-◌, ◌*◌, ◌≤◌}
+use mathlib.Core.Path.{◌≡◌, sym, ap, ◌∙◌}
+use mathlib.Core.Bool.{◌||◌}
 use mathlib.Core.List.{List, [], ◌∷◌, ◌++◌, map}
 use native.Mathlib.Omega.{arith}
 use borrow.Author.Tests.{ne_eqb}
 use lib.Dec.{eqb}
-use lib.ListN.{length, take, drop, length-append, length-drop, length-replicate}
+use lib.ListN.{length, take, drop, length-append, length-drop}
 use lib.Seq.{length-take-le}
-use lib.IntN.{ℤ, pos}
+use lib.IntN.{ℤ}
 use borrow.Rule.Slice.PartMut.{put_mid}
-use Rattle.rules.specs.declared.Place.{Place}
-use Rattle.rules.specs.declared.StreamInfo.{StreamInfo}
+use Rattle.std.specs.Prelude.{Result, Ok, Err, Option, None, Some, OnOk}
 use Rattle.rules.specs.declared.Refusal.{Refusal}
 use Rattle.rules.specs.declared.Refusal.TheVariants as refusal
-use Rattle.rules.specs.Answers.{Ans, got, bad, bind, answered, pick, check, Read, each}
-use Rattle.rules.specs.Bits.{bit_of}
-use Rattle.rules.specs.Symbol.{symbol}
-use Rattle.rules.specs.Rice.{RiceData, rice}
+use Rattle.rules.specs.Answers.{Ans, got, bad, bind, answered, check, Read, each}
+use Rattle.rules.specs.Rice.{RiceData}
 use Rattle.rules.specs.Prediction.{predicted, summed}
-use Rattle.rules.specs.Element.{Channel, Params, channel_of, channel}
+use Rattle.rules.specs.Element.{Channel, Params, channel_of}
+use Rattle.laws.specs.Answers.{answered_got, answered_bad}
 use Rattle.laws.specs.Words.{Every, none, one}
-use Rattle.bitcursor.specs.declared.Reached.{Reached}
-use Rattle.bitcursor.specs.declared.Reached.TheVariants as reached
-use Rattle.bitcursor.specs.Reads.{told_as, PlainAt, Reaches}
-use Rattle.dec_rice.specs.Promise.{filled, place_after}
+use Rattle.bitcursor.specs.Cursor.{Cursor}
+use Rattle.bitcursor.specs.Reads.{told, Reads}
+use Rattle.bitcursor.proofs.Laws.{value_of, refused_of}
+use Rattle.dec_rice.specs.Promise.{filled, Decompressed}
 use Rattle.buffers.specs.Halves.{parts, with_parts}
 use Rattle.buffers.proofs.Halves.{halves_fit, with_rest, parts_with, with_first, with_second}
-use Rattle.buffers.specs.Fills.{Laid, Fills}
+use Rattle.buffers.specs.Fills.{Roomy, Fills}
 use Rattle.dec_header.specs.declared.plan.Parameters.{Parameters}
-use Rattle.dec_header.specs.Plan.{AllowedChannel, params_of, channels_of}
+use Rattle.dec_header.specs.Plan.{params_of, channels_of}
+
+-- a lent buffer's values, as the rules read them
+abbrev Filled : {B : Type 0} → B → (List ℕ → Read B) → Cursor → Cursor → Result (Unit {0}) Refusal → Type 0
+Filled v rule was is r = Reads (λ u. v) rule was is r
 
 -- ---- one channel
 
-module _ (b n : ℕ) (c : Params) where
+-- the Rice data that was read, which the buffer has
+rice_data : {rule : List ℕ → Read RiceData} {was is : Cursor} {old buf : List ℤ} {r : Result (Unit {0}) Refusal} {u : Unit {0}} → Decompressed rule was is old buf r → r ≡ Ok u
+    → (d : RiceData) × (rule was.bits was.at ≡ got d is.at) × (buf ≡ d.residuals)
+unfolding filled
+rice_data {rule} {was} t k =
+    let e = answered_got (λ (d : RiceData). tt) (rule was.bits was.at) (value_of t.reads k) in
+    (e.0, e.1, rw e.1 at t.buffer)
+
+module _ (b : ℕ) (c : Params) (rule : List ℕ → Read RiceData) where
   -- the channel of Rice data that was read, or of none
-  abbrev from : Ans RiceData → Ans (List ℤ)
-  from a = answered (λ x. x.values) (bind a (λ d p. bind (check (eqb c.mode 0 || eqb c.mode 15) refusal.Mode p) (λ u q. got (channel_of b c d) q)))
+  abbrev from : List ℕ → Read (List ℤ)
+  from bits p = answered (λ x. x.values) (bind (rule bits p) (λ d q. bind (check (eqb c.mode 0 || eqb c.mode 15) refusal.Mode q) (λ u i. got (channel_of b c d) i)))
 
   abbrev sampled : List ℤ → List ℤ
   sampled xs = (predicted b c.quant [] c.coefs xs).values
 
-  pub from_refused : (a : Ans RiceData) {x : Refusal} {p : ℕ} → place_after a ≡ bad x p → from a ≡ bad x p
-  unfolding answered bind
-  from_refused (got d q) e = let z : ◌≡◌ {A = ℕ} 0 1 = cc in absurd (omega arith)
-  from_refused (bad y q) e = cc
+  module _ {was is : Cursor} {old buf new : List ℤ} {r : Result (Unit {0}) Refusal} (t : Decompressed rule was is old buf r) where
+    pub from_refused : {x : Refusal} → r ≡ Err x → Filled new from was is (Err x)
+    unfolding answered bind told
+    from_refused k =
+        let e = answered_bad (λ (d : RiceData). tt) (rule was.bits was.at) (refused_of t.reads k) in
+        record { tells = rw e; same = t.reads.same }
 
-  pub from_plain : (is : List ℤ) (a : Ans RiceData) {p : ℕ} → place_after a ≡ got tt p → is ≡ filled n a → c.mode ≡ 0 → from a ≡ got (sampled is) p
-  unfolding answered bind filled channel_of
-  from_plain is (bad y q) e f m = let z : ◌≡◌ {A = ℕ} 0 1 = cc in absurd (omega arith)
-  from_plain is (got d q) {p} e f m = let k : q ≡ p = cc in rw (m, f, k)
+    module _ {u : Unit {0}} (k : r ≡ Ok u) where
+      pub from_plain : c.mode ≡ 0 → new ≡ sampled buf → Filled new from was is (Ok tt)
+      unfolding answered bind told channel_of
+      from_plain m f = let d = rice_data t k in record { tells = go d.0 d.1 d.2; same = t.reads.same }
+        where
+          go : (d : RiceData) → rule was.bits was.at ≡ got d is.at → buf ≡ d.residuals → got new is.at ≡ from was.bits was.at
+          go d e g = rw (e, m, f, g)
 
-  pub from-summed : (is : List ℤ) (a : Ans RiceData) {p : ℕ} → place_after a ≡ got tt p → is ≡ filled n a → c.mode ≡ 15 → from a ≡ got (sampled (summed b is)) p
-  unfolding answered bind filled channel_of
-  from-summed is (bad y q) e f m = let z : ◌≡◌ {A = ℕ} 0 1 = cc in absurd (omega arith)
-  from-summed is (got d q) {p} e f m = let k : q ≡ p = cc in rw (m, f, k)
+      pub from_summed : c.mode ≡ 15 → new ≡ sampled (summed b buf) → Filled new from was is (Ok tt)
+      unfolding answered bind told channel_of
+      from_summed m f = let d = rice_data t k in record { tells = go d.0 d.1 d.2; same = t.reads.same }
+        where
+          go : (d : RiceData) → rule was.bits was.at ≡ got d is.at → buf ≡ d.residuals → got new is.at ≡ from was.bits was.at
+          go d e g = rw (e, m, f, g)
 
-  pub from_other : (a : Ans RiceData) {p : ℕ} → place_after a ≡ got tt p → (c.mode ≡ 0 → ⊥) → (c.mode ≡ 15 → ⊥) → from a ≡ bad refusal.Mode p
-  unfolding answered bind
-  from_other (bad y q) e f g = let z : ◌≡◌ {A = ℕ} 0 1 = cc in absurd (omega arith)
-  from_other (got d q) {p} e f g = let k : q ≡ p = cc in rw (ne_eqb c.mode 0 f, ne_eqb c.mode 15 g, k)
-
--- an allowed channel's array has all its places
-pub coefs_length : {c : Parameters} → AllowedChannel c → length c.coefs ≡ 32
-coefs_length {c} a =
-    omega (arith, a.order_le, length-drop c.order c.coefs, length-replicate (32 - c.order) (pos 0), ap length a.settled.rest)
+      pub from_other : (c.mode ≡ 0 → ⊥) → (c.mode ≡ 15 → ⊥) → Filled new from was is (Err refusal.Mode)
+      unfolding answered bind told
+      from_other f g = let d = rice_data t k in record { tells = rw (d.1, ne_eqb c.mode 0 f, ne_eqb c.mode 15 g); same = t.reads.same }
 
 -- ---- the channels, one after the other
 
-module _ (f : Params → Read Channel) (w : ℕ) (first second : Parameters) (p : ℕ) where
-  abbrev firstly : Ans (List ℤ)
-  firstly = answered (λ x. x.values) (f (params_of first) p)
+module _ (f : List ℕ → Params → Read Channel) where
+  abbrev single : Params → List ℕ → Read (List ℤ)
+  single c bits p = answered (λ x. x.values) (f bits c p)
 
-  abbrev all : Ans (List (List ℤ))
-  all = answered (map (λ x. x.values)) (each (channels_of w first second) f p)
+  abbrev all : List Params → List ℕ → Read (List (List ℤ))
+  all cs bits p = answered (map (λ x. x.values)) (each cs (f bits) p)
 
-  -- the rest after a channel that was read
-  after_one : (a : Ans Channel) {x : Refusal} {q : ℕ} (k : Channel → ℕ → Ans (List Channel)) → answered (λ x. x.values) a ≡ bad x q → answered (map (λ x. x.values)) (bind a k) ≡ bad x q
-  unfolding answered bind
-  after_one (got c r) k e = let z : ◌≡◌ {A = ℕ} 0 1 = cc in absurd (omega arith)
-  after_one (bad y r) k e = cc
+  module _ (c : Params) {was mid : Cursor} {ys : List ℤ} {r : Result (Unit {0}) Refusal} (t : Filled ys (single c) was mid r) where
+    all_refused : {x : Refusal} {chans : List (List ℤ)} (cs : List Params) → r ≡ Err x → Filled chans (all (c ∷ cs)) was mid (Err x)
+    unfolding answered bind each told
+    all_refused cs k =
+        let e = answered_bad (λ (x : Channel). x.values) (f was.bits c was.at) (refused_of t k) in
+        record { tells = rw e; same = t.same }
 
-  pub each_refused : {x : Refusal} {q : ℕ} → firstly ≡ bad x q → all ≡ bad x q
-  unfolding each channels_of
-  each_refused {x} {q} e = go (eqb w 1)
-    where
-      go : (t : Bool) → answered (map (λ x. x.values)) (each (params_of first ∷ pick t [] (params_of second ∷ [])) f p) ≡ bad x q
-      go true = after_one (f (params_of first) p) _ e
-      go false = after_one (f (params_of first) p) _ e
+    module _ {u : Unit {0}} (k : r ≡ Ok u) where
+      pub all_one : Filled (ys ∷ []) (all (c ∷ [])) was mid (Ok tt)
+      unfolding answered bind each told
+      all_one =
+          let e = answered_got (λ (x : Channel). x.values) (f was.bits c was.at) (value_of t k) in
+          record { tells = go e.0 e.1 e.2; same = t.same }
+        where
+          go : (x : Channel) → f was.bits c was.at ≡ got x mid.at → ys ≡ x.values → got (ys ∷ []) mid.at ≡ all (c ∷ []) was.bits was.at
+          go x e g = rw (e, g)
 
-  pub each_one : {ys : List ℤ} {q : ℕ} → w ≡ 1 → firstly ≡ got ys q → all ≡ got (ys ∷ []) q
-  unfolding each channels_of answered bind
-  each_one {ys} {q} h e = rw h (go (f (params_of first) p) e)
-    where
-      go : (a : Ans Channel) → answered (λ x. x.values) a ≡ got ys q → answered (map (λ x. x.values)) (bind a (λ x r. got (x ∷ []) r)) ≡ got (ys ∷ []) q
-      go (got c r) e = cc
-      go (bad y r) e = let z : ◌≡◌ {A = ℕ} 0 1 = cc in absurd (omega arith)
+      pub all_two : (d : Params) {is : Cursor} {zs : List ℤ} (q : Result (Unit {0}) Refusal) → Filled zs (single d) mid is q → Filled (ys ∷ zs ∷ []) (all (c ∷ d ∷ [])) was is q
+      unfolding answered bind each told
+      all_two d {is} {zs} q s =
+          let e = answered_got (λ (x : Channel). x.values) (f was.bits c was.at) (value_of t k) in
+          record { tells = go e.0 e.1 e.2 q (rw t.same at s.tells); same = s.same ∙ t.same }
+        where
+          last : (x : Channel) → ys ≡ x.values → (a : Ans Channel) (h : Result (Unit {0}) Refusal) → told (λ u. zs) h is.at ≡ answered (λ x. x.values) a
+              → told (λ u. ys ∷ zs ∷ []) h is.at ≡ answered (map (λ x. x.values)) (bind (bind a (λ y i. got (y ∷ []) i)) (λ xs i. got (x ∷ xs) i))
+          last x g (got y j) (Ok v) i = let e : zs ≡ y.values = cc in let p : j ≡ is.at = cc in rw (g, e, p)
+          last x g (bad y j) (Ok v) i = absurd (cc)
+          last x g (got y j) (Err z) i = absurd (cc)
+          last x g (bad y j) (Err z) i = cc
 
-  pub each_two : {ys zs : List ℤ} {q : ℕ} {g : Reached} → (w ≡ 1 → ⊥) → firstly ≡ got ys q → Reaches (answered (λ x. x.values) (f (params_of second) q)) zs g → Reaches all (ys ∷ zs ∷ []) g
-  unfolding each channels_of answered bind told_as
-  each_two {ys} {zs} {q} {g} h e r = record { tells = rw (ne_eqb w 1 h) (go (f (params_of first) p) e); plain = r.plain }
-    where
-      last : (a : Ans Channel) (c : Channel) (h : Reached) → c.values ≡ ys → told_as zs h ≡ answered (λ x. x.values) a
-          → told_as (ys ∷ zs ∷ []) h ≡ answered (map (λ x. x.values)) (bind (bind a (λ x r. got (x ∷ []) r)) (λ xs r. got (c ∷ xs) r))
-      last (got d r) c (reached.At pl) i j = cc
-      last (bad y r) c (reached.At pl) i j = let z : ◌≡◌ {A = ℕ} 0 1 = cc in absurd (omega arith)
-      last (got d r) c (reached.Refused x pl) i j = let z : ◌≡◌ {A = ℕ} 0 1 = cc in absurd (omega arith)
-      last (bad y r) c (reached.Refused x pl) i j = cc
+          go : (x : Channel) → f was.bits c was.at ≡ got x mid.at → ys ≡ x.values → (h : Result (Unit {0}) Refusal) → told (λ u. zs) h is.at ≡ single d was.bits mid.at
+              → told (λ u. ys ∷ zs ∷ []) h is.at ≡ all (c ∷ d ∷ []) was.bits was.at
+          go x e g h i = rw e (last x g (f was.bits d mid.at) h i)
 
-      go : (a : Ans Channel) → answered (λ x. x.values) a ≡ got ys q
-          → told_as (ys ∷ zs ∷ []) g ≡ answered (map (λ x. x.values)) (bind a (λ c q. bind (bind (f (params_of second) q) (λ x r. got (x ∷ []) r)) (λ xs r. got (c ∷ xs) r)))
-      go (got c at) e =
-          let i : c.values ≡ ys = cc in
-          let j : at ≡ q = cc in
-          rw j (last (f (params_of second) q) c g i r.tells)
-      go (bad y r) e = let z : ◌≡◌ {A = ℕ} 0 1 = cc in absurd (omega arith)
+  -- the first of a plan's channels, whether the second is there or not
+  pub plan_refused : (first : Parameters) (second : Option Parameters) {was mid : Cursor} {ys : List ℤ} {r : Result (Unit {0}) Refusal} {x : Refusal} {chans : List (List ℤ)}
+      → Filled ys (single (params_of first)) was mid r → r ≡ Err x → Filled chans (all (channels_of first second)) was mid (Err x)
+  plan_refused first None t k = all_refused (params_of first) t [] k
+  plan_refused first (Some second) t k = all_refused (params_of first) t (params_of second ∷ []) k
 
 -- ---- where they lie
 
-module _ (half n : ℕ) (was : List ℤ) (n-le : n ≤ half) (room : 2 * half ≤ length was) where
-  one_laid : (ys : List ℤ) → length ys ≡ n → ys ++ drop n was ≡ with_parts half (ys ∷ []) was
-  one_laid ys e = with_first half n n-le ys was e (omega arith)
+on_ok : {A E P : Type 0} (r : Result A E) → P → OnOk r P
+on_ok (Ok v) p = p
+on_ok (Err x) p = tt
 
-  rest_of : (chans : List (List ℤ)) → length chans ≤ 2 → drop (2 * half) (with_parts half chans was) ≡ drop (2 * half) was
-  rest_of chans h = with_rest half 2 chans was h room
+module _ {half n w : ℕ} {scratch : List ℤ} (r : Roomy half n w scratch) where
+  first_laid : (ys : List ℤ) → length ys ≡ n → ys ++ drop n scratch ≡ with_parts half (ys ∷ []) scratch
+  first_laid ys e = with_first half n r.short ys scratch e (omega (arith, r.room))
 
-  lies : (w : ℕ) (chans : List (List ℤ)) → w ≡ length chans → w ≤ 2 → Every (λ c. length c ≡ n) chans → parts half n w (with_parts half chans was) ≡ chans
-  lies w chans e h f = rw e (parts_with half n n-le was f (halves_fit half (length chans) (length was) (omega arith) room))
+  module _ {rule : List ℕ → Read (List (List ℤ))} {was now : Cursor} where
+    -- channels that were laid, each in its half
+    laid_fills : (chans : List (List ℤ)) {is : List ℤ} {q : Result (Unit {0}) Refusal} → is ≡ with_parts half chans scratch → w ≡ length chans → Every (λ c. length c ≡ n) chans
+        → Filled chans rule was now q → Fills half n w rule was now scratch is q
+    laid_fills chans {is} {q} e l h t =
+        let fit = halves_fit half (length chans) (length scratch) (omega (arith, r.two)) r.room in
+        let k : parts half n w is ≡ chans = ap (parts half n w) e ∙ rw l (parts_with half n r.short scratch h fit) in
+        record {
+          reads = rw k t;
+          laid = on_ok q (e ∙ ap (λ (x : List (List ℤ)). with_parts half x scratch) (sym k));
+          rest = ap (drop (2 * half)) e ∙ with_rest half 2 chans scratch (omega (arith, r.two)) r.room;
+        }
 
-  laid_by : (w : ℕ) (chans : List (List ℤ)) (is : List ℤ) → is ≡ with_parts half chans was → parts half n w is ≡ chans → (g : Reached) → Laid half n w was is g
-  unfolding Laid
-  laid_by w chans is e f (reached.At pl) = e ∙ ap (λ (x : List (List ℤ)). with_parts half x was) (sym f)
-  laid_by w chans is e f (reached.Refused x pl) = tt
+    pub one_fills : (ys : List ℤ) → length ys ≡ n → w ≡ 1 → Filled (ys ∷ []) rule was now (Ok tt) → Fills half n w rule was now scratch (ys ++ drop n scratch) (Ok tt)
+    one_fills ys e l t = laid_fills (ys ∷ []) (first_laid ys e) l (one e none) t
 
-  filled_by : (w : ℕ) (chans : List (List ℤ)) (is : List ℤ) → is ≡ with_parts half chans was → w ≡ length chans → w ≤ 2 → Every (λ c. length c ≡ n) chans
-      → {a : Ans (List (List ℤ))} {g : Reached} → Reaches a chans g → Fills half n w a was is g
-  filled_by w chans is e l h f {a} {g} r =
-      let k : parts half n w is ≡ chans = ap (parts half n w) e ∙ lies w chans l h f in
-      record { reaches = rw k r; laid = laid_by w chans is e k g; rest = ap (drop (2 * half)) e ∙ rest_of chans (omega arith) }
+    pub two_fill : (ys zs : List ℤ) {q : Result (Unit {0}) Refusal} → length ys ≡ n → length zs ≡ n → w ≡ 2 → Filled (ys ∷ zs ∷ []) rule was now q
+        → Fills half n w rule was now scratch (put_mid half (half + n - half) (ys ++ drop n scratch) zs) q
+    two_fill ys zs e f l t =
+        let k : put_mid half (half + n - half) (ys ++ drop n scratch) zs ≡ with_parts half (ys ∷ zs ∷ []) scratch =
+        ap (λ (x : List ℤ). put_mid half (half + n - half) x zs) (first_laid ys e) ∙ with_second half n r.short ys zs {more = []} scratch e f none (omega arith) r.room in
+        laid_fills (ys ∷ zs ∷ []) k l (one e (one f none)) t
 
-  pub first-filled : (ys : List ℤ) {a : Ans (List (List ℤ))} {g : Reached} → length ys ≡ n → Reaches a (ys ∷ []) g → Fills half n 1 a was (ys ++ drop n was) g
-  first-filled ys e r = filled_by 1 (ys ∷ []) _ (one_laid ys e) refl (omega arith) (one e none) r
+    pub refused_fills : (ys : List ℤ) {x : Refusal} → length ys ≡ n → Filled (parts half n w (ys ++ drop n scratch)) rule was now (Err x)
+        → Fills half n w rule was now scratch (ys ++ drop n scratch) (Err x)
+    refused_fills ys e t =
+        record { reads = t; laid = tt; rest = ap (drop (2 * half)) (first_laid ys e) ∙ with_rest half 2 (ys ∷ []) scratch (omega arith) r.room }
 
-  pub both_filled : (w : ℕ) (ys zs : List ℤ) {a : Ans (List (List ℤ))} {g : Reached} → w ≡ 2 → length ys ≡ n → length zs ≡ n → Reaches a (ys ∷ zs ∷ []) g
-      → Fills half n w a was (put_mid half (half + n - half) (ys ++ drop n was) zs) g
-  both_filled w ys zs h e f r =
-      let k : put_mid half (half + n - half) (ys ++ drop n was) zs ≡ with_parts half (ys ∷ zs ∷ []) was =
-      ap (λ (x : List ℤ). put_mid half (half + n - half) x zs) (one_laid ys e) ∙ with_second half n n-le ys zs {more = []} was e f none (omega arith) room in
-      filled_by w (ys ∷ zs ∷ []) _ k h (omega arith) (one e (one f none)) r
+  pub length-first : length (take n scratch) ≡ n
+  length-first = length-take-le n scratch (omega (arith, r.short, r.room))
 
-  pub first_refused : (w : ℕ) (ys : List ℤ) {a : Ans (List (List ℤ))} {x : Refusal} {pl : Place} → length ys ≡ n → a ≡ bad x (bit_of pl) → pl.bit < 8
-      → Fills half n w a was (ys ++ drop n was) (reached.Refused x pl)
-  unfolding told_as PlainAt Laid
-  first_refused w ys e f g =
-      record { reaches = record { tells = sym f; plain = g }; laid = tt; rest = ap (drop (2 * half)) (one_laid ys e) ∙ rest_of (ys ∷ []) (omega arith) }
-
--- the part that is lent to the second channel
-pub second-length : (half n : ℕ) (was ys : List ℤ) → n ≤ half → 2 * half ≤ length was → length ys ≡ n → length (take (half + n - half) (drop half (ys ++ drop n was))) ≡ n
-second-length half n was ys h room e =
-    let l : length (ys ++ drop n was) ≡ length was = length-append ys (drop n was) ∙ omega (arith, length-drop n was) in
-    let k : half + n - half ≤ length (drop half (ys ++ drop n was)) = omega (arith, length-drop half (ys ++ drop n was)) in
-    length-take-le (half + n - half) (drop half (ys ++ drop n was)) k ∙ omega arith
+  -- the part that is lent to the second channel
+  pub length-second : (ys : List ℤ) → length ys ≡ n → length (take (half + n - half) (drop half (ys ++ drop n scratch))) ≡ n
+  length-second ys e =
+      let l : length (ys ++ drop n scratch) ≡ length scratch = length-append ys (drop n scratch) ∙ omega (arith, r.short, r.room, length-drop n scratch) in
+      let k : half + n - half ≤ length (drop half (ys ++ drop n scratch)) = omega (arith, r.short, r.room, length-drop half (ys ++ drop n scratch)) in
+      length-take-le (half + n - half) (drop half (ys ++ drop n scratch)) k ∙ omega arith

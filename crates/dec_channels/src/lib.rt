@@ -3,19 +3,18 @@
 
 ghost use Rattle.std.specs.Prelude.{◌≡◌, [], map, length, take};
 ghost use Rattle.rules.specs.Answers.{answered, each};
-ghost use Rattle.rules.specs.Bits.{bit_of, bits_of};
 ghost use Rattle.rules.specs.Prediction.{predicted, summed};
 ghost use Rattle.rules.specs.Element.{channel};
-ghost use Rattle.bitcursor.specs.Reads.{Reaches};
-ghost use Rattle.dec_header.specs.Plan.{params_of, channels_of};
+ghost use Rattle.bitcursor.specs.Reads.{Reads};
+ghost use Rattle.dec_header.specs.Plan.{params_of, plan_of};
 ghost use Rattle.buffers.specs.Fills.{Fills};
-ghost use Rattle.dec_channels.specs.Channels.{Predictable, Channelled, Planned};
+ghost use Rattle.dec_channels.specs.Channels.{width_of, Predictable, Channelled, Planned};
 
-use bitcursor::Reached;
+use bitcursor::BitCursor;
 use dec_header::plan::{Parameters, Plan};
 use dec_rice::{Coding, rice_decompress};
 use lpc::{lpc_predict, lpc_predict_order_31};
-use rules::{Place, Refusal, StreamInfo};
+use rules::{Refusal, StreamInfo};
 
 fn predict(buf: &mut [i32], bps: u32, c: Parameters)
     requires { Predictable bps c }
@@ -37,61 +36,48 @@ fn sum_and_predict(residuals: &mut [i32], bps: u32, c: Parameters)
 
 // One channel.
 fn decode_channel(
-    packet: &[u8],
+    bits: &mut BitCursor<'_>,
     s: StreamInfo,
-    start: Place,
     bps: u32,
     c: Parameters,
     buf: &mut [i32],
-) -> Reached
+) -> Result<(), Refusal>
     requires { Channelled s bps c }
-    ensures { Reaches (answered (λ x. x.values) (channel (bits_of packet.now) s (length buf.old) bps (params_of c) (bit_of start))) buf.new result }
+    ensures { Reads (λ _. buf.new) (λ packet p. answered (λ x. x.values) (channel packet s (length buf.old) bps (params_of c) p)) bits.old bits.new result }
 {
-    let mode = c.mode;
     let coding = Coding {
         kb: s.kb as u32,
         factor: c.factor,
         bits: bps,
     };
-    let rice = rice_decompress(packet, start, coding, s.mb, buf);
-    let Reached::At(next) = rice else {
-        return rice;
-    };
-    if mode == 0 {
+    rice_decompress(bits, coding, s.mb, buf)?;
+    if c.mode == 0 {
         predict(buf, bps, c);
-        return Reached::At(next);
+        return Ok(());
     }
-    if mode == 15 {
+    if c.mode == 15 {
         sum_and_predict(buf, bps, c);
-        return Reached::At(next);
+        return Ok(());
     }
-    Reached::Refused(Refusal::Mode, next)
+    Err(Refusal::Mode)
 }
 
 // One channel into the first half of scratch; of a pair the second into the other.
 pub fn decode_channels(
-    packet: &[u8],
+    bits: &mut BitCursor<'_>,
     s: StreamInfo,
-    start: Place,
     bps: u32,
     plan: Plan,
-    channels: u32,
     n: usize,
     scratch: &mut [i32],
-) -> Reached
-    requires { Planned s bps plan channels n scratch.old }
-    ensures { Fills s.frame_length n channels (answered (map (λ x. x.values)) (each (channels_of channels plan.first plan.second) (channel (bits_of packet.now) s n bps) (bit_of start))) scratch.old scratch.new result }
+) -> Result<(), Refusal>
+    requires { Planned s bps plan n scratch.old }
+    ensures { Fills s.frame_length n (width_of plan) (λ packet p. answered (map (λ x. x.values)) (each (plan_of plan).params (channel packet s n bps) p)) bits.old bits.new scratch.old scratch.new result }
 {
     let half = s.frame_length as usize;
-    let end = half + n;
-    let first = plan.first;
-    let second = plan.second;
-    let one = decode_channel(packet, s, start, bps, first, &mut scratch[..n]);
-    let Reached::At(next) = one else {
-        return one;
-    };
-    if channels == 1 {
-        return Reached::At(next);
+    decode_channel(bits, s, bps, plan.first, &mut scratch[..n])?;
+    match plan.second {
+        None => Ok(()),
+        Some(second) => decode_channel(bits, s, bps, second, &mut scratch[half..half + n]),
     }
-    decode_channel(packet, s, next, bps, second, &mut scratch[half..end])
 }

@@ -8,24 +8,20 @@ use native.Mathlib.Omega.{arith}
 use lib.ListN.{length, take, drop, set, length-drop, length-set, length-map, take-append-drop}
 use lib.Seq.{length-take-le, take-take, take-suc-set, take-set-lt, take-set-le, drop-set-lt, drop-set-add, drop-drop}
 use lib.IntN.{ℤ}
-use Rattle.rules.specs.declared.Place.{Place}
+use Rattle.std.specs.Prelude.{Result, Ok, Err}
 use Rattle.rules.specs.declared.Refusal.{Refusal}
-use Rattle.rules.specs.declared.Refusal.TheVariants as refusal
 use Rattle.rules.specs.Answers.{Ans, got, bad, bind, answered, Read, times}
-use Rattle.rules.specs.Bits.{bit_of, field}
+use Rattle.rules.specs.Bits.{field}
 use Rattle.rules.specs.Buffers.{laid, lanes, pairs}
 use Rattle.rules.specs.Words.{signed}
 use Rattle.laws.specs.Words.{Every, none, one}
 use Rattle.laws.specs.Buffers.{laid-all, lanes_count, lanes_row, lanes-length}
 use Rattle.laws.specs.Answers.{answered_got, answered_bad, answered-answered}
-use Rattle.bitcursor.specs.declared.Got.{Got}
-use Rattle.bitcursor.specs.declared.Got.TheVariants.{Value, Short}
-use Rattle.bitcursor.specs.declared.Reached.{Reached}
-use Rattle.bitcursor.specs.declared.Reached.TheVariants.{At, Refused}
-use Rattle.bitcursor.specs.Reads.{told_as, PlainAt, Reads}
-use Rattle.bitcursor.proofs.Laws.{value_of, cut_of, plain_of, reached_of, refused_of, reached_plain_of, refused_plain_of}
+use Rattle.bitcursor.specs.Cursor.{Cursor}
+use Rattle.bitcursor.specs.Reads.{told, Reads}
+use Rattle.bitcursor.proofs.Laws.{value_of, refused_of}
 use Rattle.buffers.specs.Halves.{parts, with_parts}
-use Rattle.buffers.specs.Fills.{Laid, Fills, Roomy}
+use Rattle.buffers.specs.Fills.{Fills, Roomy}
 use Rattle.dec_element.specs.Raw.{Stores, row_laid, Rows}
 
 -- ---- answers
@@ -110,55 +106,55 @@ drop-later k m xs ys h e =
     let d : m ≡ k + (m - k) = omega arith in
     rw (d, ← drop-drop (m - k) k xs, ← drop-drop (m - k) k ys, e)
 
-module _ (bits : List ℕ) (depth k : ℕ) (was : List ℤ) (at : Place) {g : Got} (r : Reads (field bits depth (bit_of at)) g) where
-  pub stores_cut : at.bit < 8 → {pl : Place} → g ≡ Short pl → Stores bits depth (bit_of at) k was was (Refused refusal.Short at)
-  unfolding told_as PlainAt answered
-  stores_cut h e = record { reaches = record { tells = rw (cut_of bits depth (bit_of at) r e); plain = h }; same = refl; rest = refl }
+module _ {was is : Cursor} (depth k : ℕ) (scr : List ℤ) {r : Result ℕ Refusal} (t : Reads (λ v. v) (λ bits. field bits depth) was is r) where
+  pub stores_cut : {x : Refusal} {q : Result (Unit {0}) Refusal} → r ≡ Err x → q ≡ Err x → Stores depth k was is scr scr q
+  unfolding told answered
+  stores_cut e d = rw d (record { reads = record { tells = rw (refused_of t e); same = t.same }; same = refl; rest = refl })
 
-  pub stores_value : {v : ℕ} {pl : Place} {x : ℤ} → g ≡ Value v pl → x ≡ signed depth v → Stores bits depth (bit_of at) k was (set was k x) (At pl)
-  unfolding told_as PlainAt answered
-  stores_value {x} e d = record {
-    reaches = record { tells = rw (value_of r e, d); plain = plain_of r e };
-    same = length-set was k x;
-    rest = drop-set-lt (k + 1) was k x (omega arith);
+  pub stores_value : {v : ℕ} {x : ℤ} → r ≡ Ok v → x ≡ signed depth v → Stores depth k was is scr (set scr k x) (Ok tt)
+  unfolding told answered
+  stores_value {x = x} e d = record {
+    reads = record { tells = rw (value_of t e, d); same = t.same };
+    same = length-set scr k x;
+    rest = drop-set-lt (k + 1) scr k x (omega arith);
   }
 
 -- ---- one row
 
-module _ (bits : List ℕ) (depth half p i : ℕ) (was mid : List ℤ) {g : Reached} (s : Stores bits depth p i was mid g) (short : i + 1 ≤ half) where
-  first_rest : drop (2 * half) mid ≡ drop (2 * half) was
-  first_rest = drop-later (i + 1) (2 * half) mid was (omega arith) s.rest
+module _ {was mid : Cursor} (depth half i : ℕ) {scr scr' : List ℤ} {r : Result (Unit {0}) Refusal} (s : Stores depth i was mid scr scr' r) (short : i + 1 ≤ half) where
+  first_rest : drop (2 * half) scr' ≡ drop (2 * half) scr
+  first_rest = drop-later (i + 1) (2 * half) scr' scr (omega arith) s.rest
 
-  pub rows_cut : (w : ℕ) → 1 ≤ w → {x : Refusal} {pl : Place} → g ≡ Refused x pl → Rows bits depth w half p i was mid g
-  unfolding times bind told_as PlainAt answered
-  rows_cut zero h e = absurd (omega arith)
-  rows_cut (suc w) h {x} {pl} e =
-      let a = answered_bad (λ v. set was i (signed depth v)) (field bits depth p) (refused_of s.reaches e) in
-      rw e (record { reaches = record { tells = rw a; plain = refused_plain_of s.reaches e }; same = s.same; rest = first_rest })
+  pub rows_cut : (w : ℕ) → 1 ≤ w → {x : Refusal} {q : Result (Unit {0}) Refusal} → r ≡ Err x → q ≡ Err x → Rows depth w half i was mid scr scr' q
+  unfolding times bind told answered
+  rows_cut zero h e d = absurd (omega arith)
+  rows_cut (suc w) h e d =
+      let a = answered_bad (λ v. set scr i (signed depth v)) (field was.bits depth was.at) (refused_of s.reads e) in
+      rw d (record { reads = record { tells = rw a; same = s.reads.same }; same = s.same; rest = first_rest })
 
-  module _ {pl : Place} (e : g ≡ At pl) where
-    pub rows_one : (w : ℕ) → w ≡ 1 → Rows bits depth w half p i was mid (At pl)
-    unfolding times bind told_as PlainAt answered row_laid
+  module _ {u : Unit {0}} (e : r ≡ Ok u) where
+    pub rows_one : (w : ℕ) → w ≡ 1 → Rows depth w half i was mid scr scr' (Ok tt)
+    unfolding times bind told answered row_laid
     rows_one w d =
-        let a = answered_got (λ v. set was i (signed depth v)) (field bits depth p) (reached_of s.reaches e) in
-        rw d (record { reaches = record { tells = rw a.1 (ap (λ (m : List ℤ). got m (bit_of pl)) a.2); plain = reached_plain_of s.reaches e }; same = s.same; rest = first_rest })
+        let a = answered_got (λ v. set scr i (signed depth v)) (field was.bits depth was.at) (value_of s.reads e) in
+        rw d (record { reads = record { tells = rw a.1 (ap (λ (m : List ℤ). got m mid.at) a.2); same = s.reads.same }; same = s.same; rest = first_rest })
 
     second_of : (v : ℕ) (a : Ans ℕ)
-        → answered (λ y. set (set was i (signed depth v)) (half + i) (signed depth y)) a
-        ≡ answered (λ raw. row_laid half i (map (signed depth) raw) was) (bind (bind a (λ y r. got (y ∷ []) r)) (λ xs r. got (v ∷ xs) r))
+        → answered (λ y. set (set scr i (signed depth v)) (half + i) (signed depth y)) a
+        ≡ answered (λ raw. row_laid half i (map (signed depth) raw) scr) (bind (bind a (λ y r. got (y ∷ []) r)) (λ xs r. got (v ∷ xs) r))
     unfolding answered bind row_laid
     second_of v (got y r) = refl
     second_of v (bad x r) = refl
 
-    pub rows_two : (w : ℕ) → w ≡ 2 → (is : List ℤ) {h : Reached} → Stores bits depth (bit_of pl) (half + i) mid is h → Rows bits depth w half p i was is h
+    pub rows_two : (w : ℕ) → w ≡ 2 → {is : Cursor} {scr'' : List ℤ} {q : Result (Unit {0}) Refusal} → Stores depth (half + i) mid is scr' scr'' q → Rows depth w half i was is scr scr'' q
     unfolding times bind
-    rows_two w d is {h} t =
-        let a = answered_got (λ v. set was i (signed depth v)) (field bits depth p) (reached_of s.reaches e) in
-        let b = t.reaches.tells ∙ ap (λ (m : List ℤ). answered (λ y. set m (half + i) (signed depth y)) (field bits depth (bit_of pl))) a.2 ∙ second_of a.0 (field bits depth (bit_of pl)) in
+    rows_two w d {is} {scr''} t =
+        let a = answered_got (λ v. set scr i (signed depth v)) (field was.bits depth was.at) (value_of s.reads e) in
+        let b = (rw (s.reads.same, a.2) at t.reads.tells) ∙ second_of a.0 (field was.bits depth mid.at) in
         rw d (record {
-          reaches = record { tells = rw a.1 b; plain = t.reaches.plain };
+          reads = record { tells = rw a.1 b; same = t.reads.same ∙ s.reads.same };
           same = t.same ∙ s.same;
-          rest = drop-later (half + i + 1) (2 * half) is mid (omega arith) t.rest ∙ first_rest;
+          rest = drop-later (half + i + 1) (2 * half) scr'' scr' (omega arith) t.rest ∙ first_rest;
         })
 
 -- ---- a row in its channels' halves
@@ -254,35 +250,35 @@ module _ (half : ℕ) where
 
 -- ---- the rows done, before what the rule makes of the rest
 
-module _ (bits : List ℕ) (depth half n w : ℕ) where
-  -- what the rule makes of n - i rows at place p, after the i rows that lie in s
-  abbrev ahead : ℕ → List ℤ → ℕ → Ans (List (List ℤ))
-  ahead i s p = answered (λ raw. pairs ◌++◌ (parts half i w s) (lanes w (map (signed depth) raw))) (times ((n - i) * w) (field bits depth) p)
+module _ (depth half n w : ℕ) where
+  abbrev whole : List ℕ → Read (List (List ℤ))
+  whole bits p = answered (λ raw. lanes w (map (signed depth) raw)) (times (n * w) (field bits depth) p)
 
-  abbrev whole : ℕ → Ans (List (List ℤ))
-  whole p = answered (λ raw. lanes w (map (signed depth) raw)) (times (n * w) (field bits depth) p)
+  -- what the rule makes of the n - i rows that come next, after the i rows that lie in s
+  abbrev ahead : ℕ → List ℤ → List ℕ → Read (List (List ℤ))
+  ahead i s bits p = answered (λ raw. pairs ◌++◌ (parts half i w s) (lanes w (map (signed depth) raw))) (times ((n - i) * w) (field bits depth) p)
 
-  pub record Filling (start : ℕ) (was is : List ℤ) (at : Place) (i : ℕ) : Type 0 where
+  pub record Filling (start now : Cursor) (was is : List ℤ) (i : ℕ) : Type 0 where
     pub upto : i ≤ n
     pub same : length is ≡ length was
-    pub plain : at.bit < 8
+    pub bits : now.bits ≡ start.bits
     pub rest : drop (2 * half) is ≡ drop (2 * half) was
     pub kept : Kept half i w was is
-    pub goes : ahead i is (bit_of at) ≡ whole start
+    pub goes : ahead i is now.bits now.at ≡ whole start.bits start.at
 
-  pub filling_start : (was : List ℤ) (at : Place) → at.bit < 8 → Filling (bit_of at) was was at 0
-  filling_start was at h = record {
+  pub filling_start : (was : List ℤ) (now : Cursor) → Filling now now was was 0
+  filling_start was now = record {
     upto = zero-le;
     same = refl;
-    plain = h;
+    bits = refl;
     rest = refl;
     kept = kept-all half 0 w was;
-    goes = rw sub-zero (answered-same _ _ (λ raw. ahead_none half w was (lanes w (map (signed depth) raw)) (lanes_count w (map (signed depth) raw))) (times (n * w) (field bits depth) (bit_of at)));
+    goes = rw sub-zero (answered-same _ _ (λ raw. ahead_none half w was (lanes w (map (signed depth) raw)) (lanes_count w (map (signed depth) raw))) (times (n * w) (field now.bits depth) now.at));
   }
 
-  module _ (start : ℕ) (was is : List ℤ) (at : Place) (i : ℕ) (a : Roomy half n w was) (u : Filling start was is at i) where
-    pub filling_done : n ≤ i → Fills half n w (whole start) was is (At at)
-    unfolding times told_as PlainAt Laid answered
+  module _ {start now : Cursor} {was is : List ℤ} {i : ℕ} (a : Roomy half n w was) (u : Filling start now was is i) where
+    pub filling_done : n ≤ i → Fills half n w whole start now was is (Ok tt)
+    unfolding times told answered
     filling_done h =
         let e : i ≡ n = omega (arith, u.upto) in
         let l : n - i ≡ 0 = omega arith in
@@ -291,50 +287,50 @@ module _ (bits : List ℕ) (depth half n w : ℕ) where
         let room : w * half ≤ length was = omega (arith, mul-le-mul_right {m = w} {n = 2} half a.two, a.room) in
         let d = ahead-all half n w is (lanes-length 0 w [] a.some (sym (zero-mul w))) (lanes_count w []) in
         record {
-          reaches = record { tells = rw (← d) (rw (z, e) at u.goes); plain = u.plain };
+          reads = record { tells = rw (← d) (rw (z, e) at u.goes); same = u.bits };
           laid = kept-laid half n w was is a.short room u.same k;
           rest = u.rest;
         }
 
-    module _ (h : i < n) {is' : List ℤ} {g : Reached} (r : Rows bits depth w half (bit_of at) i is is' g) where
+    module _ (h : i < n) {now' : Cursor} {is' : List ℤ} {r : Result (Unit {0}) Refusal} (row : Rows depth w half i now now' is is' r) where
       rows_left : (n - i) * w ≡ w + (n - (i + 1)) * w
       rows_left = let e : n - i ≡ suc (n - (i + 1)) = omega arith in rw (e, suc-mul) (omega arith)
 
-      pub filling_cut : {x : Refusal} {pl : Place} → g ≡ Refused x pl → Fills half n w (whole start) was is' g
-      unfolding told_as PlainAt Laid answered
-      filling_cut e =
-          let b = times_off w ((n - (i + 1)) * w) (field bits depth) (bit_of at) (answered_bad (λ raw. row_laid half i (map (signed depth) raw) is) (times w (field bits depth) (bit_of at)) (refused_of r.reaches e)) in
-          rw e (record {
-            reaches = record { tells = rw (rows_left, b) at u.goes; plain = refused_plain_of r.reaches e };
+      pub filling_cut : {x : Refusal} {q : Result (Unit {0}) Refusal} → r ≡ Err x → q ≡ Err x → Fills half n w whole start now' was is' q
+      unfolding told answered
+      filling_cut e d =
+          let b = times_off w ((n - (i + 1)) * w) (field now.bits depth) now.at (answered_bad (λ raw. row_laid half i (map (signed depth) raw) is) (times w (field now.bits depth) now.at) (refused_of row.reads e)) in
+          rw d (record {
+            reads = record { tells = rw (rows_left, b) at u.goes; same = row.reads.same ∙ u.bits };
             laid = tt;
-            rest = r.rest ∙ u.rest;
+            rest = row.rest ∙ u.rest;
           })
 
-      next_by : (raw : List ℕ) (pl : Place) → times w (field bits depth) (bit_of at) ≡ got raw (bit_of pl) → is' ≡ row_laid half i (map (signed depth) raw) is
-          → pl.bit < 8 → Filling start was is' pl (i + 1)
-      next_by raw pl e d f =
-          let row : List ℤ = map (signed depth) raw in
-          let l : length row ≡ w = length-map raw (signed depth) ∙ times-length w (field bits depth) (bit_of at) e in
+      next_by : (raw : List ℕ) → times w (field now.bits depth) now.at ≡ got raw now'.at → is' ≡ row_laid half i (map (signed depth) raw) is
+          → Filling start now' was is' (i + 1)
+      next_by raw e d =
+          let xs : List ℤ = map (signed depth) raw in
+          let l : length xs ≡ w = length-map raw (signed depth) ∙ times-length w (field now.bits depth) now.at e in
           let in_half : i < half = omega (arith, a.short) in
-          let room : length row * half ≤ length is = rw l (omega (arith, mul-le-mul_right {m = w} {n = 2} half a.two, a.room, u.same)) in
-          let left : Ans (List ℕ) = times ((n - (i + 1)) * w) (field bits depth) (bit_of pl) in
-          let t = times_on w ((n - (i + 1)) * w) (field bits depth) (bit_of at) e in
+          let room : length xs * half ≤ length is = rw l (omega (arith, mul-le-mul_right {m = w} {n = 2} half a.two, a.room, u.same)) in
+          let left : Ans (List ℕ) = times ((n - (i + 1)) * w) (field now.bits depth) now'.at in
+          let t = times_on w ((n - (i + 1)) * w) (field now.bits depth) now.at e in
           let turn : (rest : List ℕ)
           → pairs ◌++◌ (parts half (i + 1) w is') (lanes w (map (signed depth) rest))
           ≡ pairs ◌++◌ (parts half i w is) (lanes w (map (signed depth) (raw ++ rest))) =
           λ rest.
           let rests : List ℤ = map (signed depth) rest in
-          rw (d, map-append (signed depth) raw rest, lanes_row w row rests a.some l, ← l) (row_turn half i in_half row is (lanes (length row) rests) room) in
+          rw (d, map-append (signed depth) raw rest, lanes_row w xs rests a.some l, ← l) (row_turn half i in_half xs is (lanes (length xs) rests) room) in
           record {
             upto = omega arith;
-            same = r.same ∙ u.same;
-            plain = f;
-            rest = r.rest ∙ u.rest;
-            kept = rw (d, ← l) (kept_next half i in_half row was is (rw (← l) at u.kept));
-            goes = answered-same _ _ turn left ∙ sym (answered-answered _ _ left) ∙ (rw (rows_left, t) at u.goes);
+            same = row.same ∙ u.same;
+            bits = row.reads.same ∙ u.bits;
+            rest = row.rest ∙ u.rest;
+            kept = rw (d, ← l) (kept_next half i in_half xs was is (rw (← l) at u.kept));
+            goes = rw row.reads.same (answered-same _ _ turn left ∙ sym (answered-answered _ _ left) ∙ (rw (rows_left, t) at u.goes));
           }
 
-      pub filling_next : {pl : Place} → g ≡ At pl → Filling start was is' pl (i + 1)
-      filling_next {pl} e =
-          let b = answered_got (λ raw. row_laid half i (map (signed depth) raw) is) (times w (field bits depth) (bit_of at)) (reached_of r.reaches e) in
-          next_by b.0 pl b.1 b.2 (reached_plain_of r.reaches e)
+      pub filling_next : {v : Unit {0}} → r ≡ Ok v → Filling start now' was is' (i + 1)
+      filling_next e =
+          let b = answered_got (λ raw. row_laid half i (map (signed depth) raw) is) (times w (field now.bits depth) now.at) (value_of row.reads e) in
+          next_by b.0 b.1 b.2

@@ -3,7 +3,7 @@
 
 ghost use Rattle.std.specs.Prelude.{◌≡◌, ◌+◌, ◌*◌, map};
 ghost use Rattle.rules.specs.Answers.{answered, times};
-ghost use Rattle.rules.specs.Bits.{bit_of, bits_of, field};
+ghost use Rattle.rules.specs.Bits.{field};
 ghost use Rattle.rules.specs.Buffers.{lanes};
 ghost use Rattle.rules.specs.Words.{signed};
 ghost use Rattle.rules.specs.Element.{compressed, uncompressed, audio_element};
@@ -11,15 +11,15 @@ ghost use Rattle.buffers.specs.Fills.{Fills};
 ghost use Rattle.dec_header.specs.Plan.{plan_of};
 ghost use Rattle.dec_element.specs.Raw.{Sample, Storable, Stores, Rawable, Rows};
 ghost use Rattle.dec_element.specs.Heard.{Hearable, Hears};
-ghost use Rattle.dec_element.specs.Sounds.{Prepared, after_plan, Sounding, Sounds, Hearing, heard_of};
+ghost use Rattle.dec_element.specs.Sounds.{Prepared, after_plan, Sounding, Sounds};
 
-use bitcursor::{Got, Reached, read, skip};
-use buffers::clear_i32;
+use bitcursor::BitCursor;
+use buffers::clear;
 use dec_channels::decode_channels;
 use dec_header::plan::{Plan, read_plan};
-use dec_header::{HeaderRead, read_header};
+use dec_header::{Header, read_header};
 use mix::finish;
-use rules::{Place, Refusal, StreamInfo};
+use rules::{Refusal, StreamInfo};
 use words::{number_of, sign_extend};
 
 // ---- The sound of an uncompressed element. Interleaved samples come into scratch, the first channel's from place 0 on, the second's from `half` on.
@@ -29,239 +29,165 @@ fn raw_of(v: u32, depth: u32) -> i32
     requires { Sample depth v }
     ensures { result ≡ signed depth v }
 {
-    let number = number_of(v);
-    sign_extend(number, depth)
+    sign_extend(number_of(v), depth)
 }
 
-// The sample at `at` comes to place `k`.
-fn raw_at(packet: &[u8], at: Place, depth: u32, k: usize, scratch: &mut [i32]) -> Reached
-    requires { Storable depth k at scratch.old }
-    ensures { Stores (bits_of packet.now) depth (bit_of at) k scratch.old scratch.new result }
+// The next sample comes to place `k`.
+fn raw_at(
+    bits: &mut BitCursor<'_>,
+    depth: u32,
+    k: usize,
+    scratch: &mut [i32],
+) -> Result<(), Refusal>
+    requires { Storable depth k scratch.old }
+    ensures { Stores depth k bits.old bits.new scratch.old scratch.new result }
 {
-    let got = read(packet, at, depth);
-    let Got::Value(v, next) = got else {
-        return Reached::Refused(Refusal::Short, at);
-    };
+    let v = bits.read(depth)?;
     scratch[k] = raw_of(v, depth);
-    Reached::At(next)
+    Ok(())
 }
 
 // One sample of each channel.
 fn raw_row(
-    packet: &[u8],
-    at: Place,
+    bits: &mut BitCursor<'_>,
     depth: u32,
-    channels: usize,
+    channels: u32,
     i: usize,
     half: usize,
     scratch: &mut [i32],
-) -> Reached
-    requires { Rawable half (i + 1) channels depth at scratch.old }
-    ensures { Rows (bits_of packet.now) depth channels half (bit_of at) i scratch.old scratch.new result }
+) -> Result<(), Refusal>
+    requires { Rawable half (i + 1) channels depth scratch.old }
+    ensures { Rows depth channels half i bits.old bits.new scratch.old scratch.new result }
 {
-    let first = raw_at(packet, at, depth, i, scratch);
-    let Reached::At(next) = first else {
-        return first;
-    };
+    raw_at(bits, depth, i, scratch)?;
     if channels == 1 {
-        return Reached::At(next);
+        return Ok(());
     }
-    let k = half + i;
-    raw_at(packet, next, depth, k, scratch)
+    raw_at(bits, depth, half + i, scratch)
 }
 
 // The uncompressed half of decode_audio_element.
 fn raw_samples(
-    packet: &[u8],
-    start: Place,
-    depth: u32,
-    channels: usize,
+    bits: &mut BitCursor<'_>,
+    s: StreamInfo,
+    channels: u32,
     n: usize,
-    half: usize,
     scratch: &mut [i32],
-) -> Reached
-    requires { Rawable half n channels depth start scratch.old }
-    ensures { Fills half n channels (answered (λ raw. lanes channels (map (signed depth) raw)) (times (n * channels) (field (bits_of packet.now) depth) (bit_of start))) scratch.old scratch.new result }
+) -> Result<(), Refusal>
+    requires { Rawable s.frame_length n channels s.bit_depth scratch.old }
+    ensures { Fills s.frame_length n channels (λ packet p. answered (λ raw. lanes channels (map (signed s.bit_depth) raw)) (times (n * channels) (field packet s.bit_depth) p)) bits.old bits.new scratch.old scratch.new result }
 {
-    let mut at = start;
-    let mut i = 0;
-    while i < n {
-        let row = raw_row(packet, at, depth, channels, i, half, scratch);
-        let Reached::At(next) = row else {
-            return row;
-        };
-        at.byte = next.byte;
-        at.bit = next.bit;
-        i += 1;
+    let half = s.frame_length as usize;
+    for i in 0..n {
+        raw_row(bits, s.bit_depth as u32, channels, i, half, scratch)?;
     }
-    Reached::At(at)
+    Ok(())
 }
 
-// ---- An audio element after its tag: decode_audio_element of dec.rs.
-
-// How many samples each channel has, and the place after them; or why not.
-#[derive(Clone, Copy)]
-pub enum Heard {
-    Samples(u32, Place),
-    Refused(Refusal, Place),
-}
+// ---- An audio element after its tag: decode_audio_element of dec.rs. The answer is how many samples each channel has.
 
 // After the plan. The extra bits lie before the Rice data, and are taken in at the end.
 fn decode_planned(
-    packet: &[u8],
+    bits: &mut BitCursor<'_>,
     s: StreamInfo,
-    extra: Place,
+    h: Header,
     channels: u32,
     bps: u32,
-    shift: u32,
-    n: u32,
     plan: Plan,
     scratch: &mut [i32],
-) -> Reached
-    requires { Prepared s channels extra bps shift n plan scratch.old }
-    ensures { Sounds s.frame_length n channels (after_plan (bits_of packet.now) s channels bps shift n (plan_of channels plan) (bit_of extra)) scratch.old scratch.new result }
+) -> Result<u32, Refusal>
+    requires { Prepared s channels h bps plan scratch.old }
+    ensures { Sounds s.frame_length channels (λ packet. after_plan packet s channels bps (8 * h.code) h.samples (plan_of plan)) bits.old bits.new scratch.old scratch.new result }
 {
     let half = s.frame_length as usize;
-    let count = n as usize;
-    let passed = skip(packet, extra, shift as u64 * (n as u64 * channels as u64));
-    let Reached::At(rice) = passed else {
-        return Reached::Refused(Refusal::Short, extra);
-    };
-    let done = decode_channels(packet, s, rice, bps, plan, channels, count, scratch);
-    let Reached::At(next) = done else {
-        return done;
-    };
+    let n = h.samples as usize;
+    let shift = 8 * h.code;
+    let extra = bits.fork();
+    bits.skip(shift as u64 * (h.samples as u64 * channels as u64))?;
+    decode_channels(bits, s, bps, plan, n, scratch)?;
     finish(
-        packet,
         extra,
         scratch,
         half,
-        count,
+        n,
         channels,
         shift,
         plan.mix_bits,
         plan.mix_res,
     );
-    Reached::At(next)
+    Ok(h.samples)
 }
 
 // 9 and 10 before any further bit.
 fn decode_compressed(
-    packet: &[u8],
+    bits: &mut BitCursor<'_>,
     s: StreamInfo,
-    at: Place,
+    h: Header,
     channels: u32,
-    code: u32,
-    n: u32,
     scratch: &mut [i32],
-) -> Reached
-    requires { Sounding s channels at code n scratch.old }
-    ensures { Sounds s.frame_length n channels (compressed (bits_of packet.now) s channels (8 * code) n (bit_of at)) scratch.old scratch.new result }
+) -> Result<u32, Refusal>
+    requires { Sounding s channels h scratch.old }
+    ensures { Sounds s.frame_length channels (λ packet. compressed packet s channels (8 * h.code) h.samples) bits.old bits.new scratch.old scratch.new result }
 {
-    let shift = 8 * code;
-    let bps = s.bit_depth as u32 - shift + channels - 1;
+    let bps = s.bit_depth as u32 - 8 * h.code + channels - 1;
     if bps > 32 {
-        return Reached::Refused(Refusal::WideChannel, at);
+        return Err(Refusal::WideChannel);
     }
     if bps == 0 {
-        return Reached::Refused(Refusal::NoChannelBits, at);
+        return Err(Refusal::NoChannelBits);
     }
-    let read = read_plan(packet, s, at, channels);
-    let answer = read.answer;
-    let plan = read.plan;
-    let Reached::At(extra) = answer else {
-        return answer;
-    };
-    decode_planned(packet, s, extra, channels, bps, shift, n, plan, scratch)
+    let plan = read_plan(bits, s, channels)?;
+    decode_planned(bits, s, h, channels, bps, plan, scratch)
 }
 
 fn decode_uncompressed(
-    packet: &[u8],
+    bits: &mut BitCursor<'_>,
     s: StreamInfo,
-    at: Place,
+    h: Header,
     channels: u32,
-    code: u32,
-    n: u32,
     scratch: &mut [i32],
-) -> Reached
-    requires { Sounding s channels at code n scratch.old }
-    ensures { Sounds s.frame_length n channels (uncompressed (bits_of packet.now) s channels code n (bit_of at)) scratch.old scratch.new result }
+) -> Result<u32, Refusal>
+    requires { Sounding s channels h scratch.old }
+    ensures { Sounds s.frame_length channels (λ packet. uncompressed packet s channels h.code h.samples) bits.old bits.new scratch.old scratch.new result }
 {
-    let half = s.frame_length as usize;
-    if code != 0 {
-        return Reached::Refused(Refusal::ShiftedRaw, at);
+    if h.code != 0 {
+        return Err(Refusal::ShiftedRaw);
     }
-    raw_samples(
-        packet,
-        at,
-        s.bit_depth as u32,
-        channels as usize,
-        n as usize,
-        half,
-        scratch,
-    )
+    raw_samples(bits, s, channels, h.samples as usize, scratch)?;
+    Ok(h.samples)
 }
 
 // The element, before a refusal's scratch is cleared.
 fn decode_element(
-    packet: &[u8],
+    bits: &mut BitCursor<'_>,
     s: StreamInfo,
-    at: Place,
     channels: u32,
     scratch: &mut [i32],
-) -> Heard
-    requires { Hearable s channels at scratch.old }
-    ensures { Hearing s.frame_length channels (audio_element (bits_of packet.now) s channels (bit_of at)) scratch.old scratch.new result }
+) -> Result<u32, Refusal>
+    requires { Hearable s channels scratch.old }
+    ensures { Sounds s.frame_length channels (λ packet. audio_element packet s channels) bits.old bits.new scratch.old scratch.new result }
 {
-    let read = read_header(packet, s, at);
-    match read {
-        HeaderRead::Refused(refusal, p) => Heard::Refused(refusal, p),
-        HeaderRead::Known(h, body) => {
-            let n = h.samples;
-            let raw = h.raw;
-            let code = h.code;
-            if raw == 0 {
-                heard_of(
-                    n,
-                    decode_compressed(packet, s, body, channels, code, n, scratch),
-                )
-            } else {
-                heard_of(
-                    n,
-                    decode_uncompressed(packet, s, body, channels, code, n, scratch),
-                )
-            }
-        }
-    }
-}
-
-fn heard_of(n: u32, reached: Reached) -> Heard
-    ensures { result ≡ heard_of n reached }
-{
-    match reached {
-        Reached::At(next) => Heard::Samples(n, next),
-        Reached::Refused(refusal, p) => Heard::Refused(refusal, p),
+    let h = read_header(bits, s)?;
+    if h.raw == 0 {
+        decode_compressed(bits, s, h, channels, scratch)
+    } else {
+        decode_uncompressed(bits, s, h, channels, scratch)
     }
 }
 
 // One channel or two, into scratch. A refusal leaves zeros there.
 pub fn decode_audio_element(
-    packet: &[u8],
+    bits: &mut BitCursor<'_>,
     s: StreamInfo,
-    at: Place,
     channels: u32,
     scratch: &mut [i32],
-) -> Heard
-    requires { Hearable s channels at scratch.old }
-    ensures { Hears s.frame_length channels (audio_element (bits_of packet.now) s channels (bit_of at)) scratch.old scratch.new result }
+) -> Result<u32, Refusal>
+    requires { Hearable s channels scratch.old }
+    ensures { Hears s.frame_length channels (λ packet. audio_element packet s channels) bits.old bits.new scratch.old scratch.new result }
 {
-    let half = s.frame_length as usize;
-    let heard = decode_element(packet, s, at, channels, scratch);
-    match heard {
-        Heard::Samples(n, next) => Heard::Samples(n, next),
-        Heard::Refused(refusal, p) => {
-            clear_i32(scratch, 2 * half);
-            Heard::Refused(refusal, p)
-        }
+    let heard = decode_element(bits, s, channels, scratch);
+    if heard.is_err() {
+        clear(scratch, 2 * s.frame_length as usize);
     }
+    heard
 }

@@ -3,15 +3,15 @@
 
 pub mod plan;
 
-ghost use Rattle.rules.specs.Answers.{answered};
-ghost use Rattle.rules.specs.Bits.{bit_of, bits_of};
+ghost use Rattle.std.specs.Prelude.{◌≤◌, IfOk};
 ghost use Rattle.rules.specs.Element.{sample_number, header};
-ghost use Rattle.dec_header.specs.Header.{SamePlace, header_with, SamplesAsked, HeaderTold};
+ghost use Rattle.bitcursor.specs.Reads.{Reads};
+ghost use Rattle.dec_header.specs.Header.{header_of, SaneHeader};
 
-use bitcursor::{Got, read, read_bit};
-use rules::{Place, Refusal, StreamInfo};
+use bitcursor::BitCursor;
+use rules::{Refusal, StreamInfo};
 
-// Shift code, uncompressed bit and sample number.
+// Shift code, uncompressed bit and sample number: numbers, as the rules' header has them.
 #[derive(Clone, Copy)]
 pub struct Header {
     pub code: u32,
@@ -19,85 +19,38 @@ pub struct Header {
     pub samples: u32,
 }
 
-#[derive(Clone, Copy)]
-pub enum HeaderRead {
-    Known(Header, Place),
-    Refused(Refusal, Place),
-}
-
-// The same place with a bit 0..7.
-fn plain(at: Place) -> Place
-    ensures { SamePlace at result }
-{
-    Place {
-        byte: at.byte,
-        bit: at.bit % 8,
-    }
-}
-
 // The sample number stands in a partial element; of any other it is the frame length.
-fn read_sample_number(
-    packet: &[u8],
-    s: StreamInfo,
-    at: Place,
-    partial: u32,
-    code: u32,
-    raw: u32,
-) -> HeaderRead
-    requires { SamplesAsked at code }
-    ensures { HeaderTold s.frame_length (answered (header_with code raw) (sample_number (bits_of packet.now) s partial (bit_of at))) result }
+#[tactic(auto, unfolding(rules::specs::Element::sample_number, rules::specs::Answers::bind, bitcursor::specs::Reads::told))]
+fn read_sample_number(bits: &mut BitCursor<'_>, s: StreamInfo, partial: u32) -> Result<u32, Refusal>
+    ensures reads { Reads (λ n. n) (λ packet. sample_number packet s partial) bits.old bits.new result }
+    ensures at_most { IfOk result (λ n. n ≤ s.frame_length) }
 {
     if partial == 0 {
-        return HeaderRead::Known(
-            Header {
-                code: code,
-                raw: raw,
-                samples: s.frame_length,
-            },
-            at,
-        );
+        return Ok(s.frame_length);
     }
-    let Got::Value(samples, end) = read(packet, at, 32) else {
-        return HeaderRead::Refused(Refusal::Short, at);
-    };
+    let samples = bits.read(32)?;
     if samples > s.frame_length {
-        return HeaderRead::Refused(Refusal::Partial, end);
+        return Err(Refusal::Partial);
     }
-    HeaderRead::Known(
-        Header {
-            code: code,
-            raw: raw,
-            samples: samples,
-        },
-        end,
-    )
+    Ok(samples)
 }
 
 // What stands after an audio element's tag. The instance is of no use.
-pub fn read_header(packet: &[u8], s: StreamInfo, at: Place) -> HeaderRead
-    ensures { HeaderTold s.frame_length (header (bits_of packet.now) s (bit_of at)) result }
+#[tactic(auto, unfolding(rules::specs::Element::header, rules::specs::Answers::bind, bitcursor::specs::Reads::told))]
+pub fn read_header(bits: &mut BitCursor<'_>, s: StreamInfo) -> Result<Header, Refusal>
+    ensures reads { Reads header_of (λ packet. header packet s) bits.old bits.new result }
+    ensures sane { IfOk result (SaneHeader s.frame_length) }
 {
-    let start = plain(at);
-    let Got::Value(_, at_unused) = read(packet, start, 4) else {
-        return HeaderRead::Refused(Refusal::Short, start);
-    };
-    let Got::Value(unused, at_partial) = read(packet, at_unused, 12) else {
-        return HeaderRead::Refused(Refusal::Short, at_unused);
-    };
-    if unused != 0 {
-        return HeaderRead::Refused(Refusal::Unused, at_partial);
+    let _instance = bits.read(4)?;
+    if bits.read(12)? != 0 {
+        return Err(Refusal::Unused);
     }
-    let Got::Value(partial, at_code) = read_bit(packet, at_partial) else {
-        return HeaderRead::Refused(Refusal::Short, at_partial);
-    };
-    let Got::Value(code, at_raw) = read(packet, at_code, 2) else {
-        return HeaderRead::Refused(Refusal::Short, at_code);
-    };
+    let partial = bits.read_bit()?;
+    let code = bits.read(2)?;
     if code > 2 {
-        return HeaderRead::Refused(Refusal::Shift, at_raw);
+        return Err(Refusal::Shift);
     }
-    let Got::Value(raw, at_samples) = read_bit(packet, at_raw) else {
-        return HeaderRead::Refused(Refusal::Short, at_raw);
-    };
-    read_sample_number(packet, s, at_samples, partial, code, raw)
+    let raw = bits.read_bit()?;
+    let samples = read_sample_number(bits, s, partial)?;
+    Ok(Header { code, raw, samples })
 }

@@ -1,98 +1,71 @@
 // One element of a packet, whatever its tag; data and fill elements.
 #![tactic(auto)]
 
-ghost use Rattle.std.specs.Prelude.{◌<◌, ◌≡◌};
-ghost use Rattle.rules.specs.Bits.{bit_of, bits_of};
-ghost use Rattle.rules.specs.Packet.{passed, skip_bytes, data_count, aligned, data_bytes, data_element, fill_element, agrees, number_known, sound_element, end_element, turn};
-ghost use Rattle.bitcursor.specs.Reads.{Reads, Reaches};
-ghost use Rattle.dec_packet.specs.Told.{Turnable, Turns, Turning, Sounding, Passes, Ends};
+ghost use Rattle.rules.specs.Packet.{passed, end, skip_bytes, data_count, aligned, data_bytes, data_element, fill_element, sound_element, end_element, turn};
+ghost use Rattle.bitcursor.specs.Reads.{Reads};
+ghost use Rattle.dec_packet.specs.Told.{Sounding, Turnable, Turning, Turns};
 
-use bitcursor::{Got, Reached, read, read_bit, skip, skip_to_byte};
-use buffers::clear_i32;
-use dec_element::{Heard, decode_audio_element};
-use rules::{Place, Refusal, Samples, StreamInfo};
+use bitcursor::BitCursor;
+use buffers::clear;
+use dec_element::decode_audio_element;
+use rules::{Refusal, StreamInfo};
 
 // ---- Elements without sound: data (DSE) and fill (FIL) are read for their length and passed over.
 
-fn skip_bytes(packet: &[u8], at: Place, bytes: u32) -> Reached
-    ensures { Reaches (skip_bytes (bits_of packet.now) bytes (bit_of at)) passed result }
+fn skip_bytes(bits: &mut BitCursor<'_>, bytes: u32) -> Result<(), Refusal>
+    ensures { Reads (λ _. passed) (λ packet. skip_bytes packet bytes) bits.old bits.new result }
 {
-    skip(packet, at, bytes as u64 * 8)
+    bits.skip(bytes as u64 * 8)
 }
 
 // The count of a data element: 8 bits, and 8 more after 255.
-fn data_count(packet: &[u8], at: Place) -> Got
-    ensures { Reads (data_count (bits_of packet.now) (bit_of at)) result }
+fn data_count(bits: &mut BitCursor<'_>) -> Result<u32, Refusal>
+    ensures { Reads (λ n. n) data_count bits.old bits.new result }
 {
-    let first = read(packet, at, 8);
-    let Got::Value(count, next) = first else {
-        return first;
-    };
+    let count = bits.read(8)?;
     if count != 255 {
-        return Got::Value(count, next);
+        return Ok(count);
     }
-    let second = read(packet, next, 8);
-    let Got::Value(more, after) = second else {
-        return second;
-    };
-    Got::Value(count + more, after)
+    let more = bits.read(8)?;
+    Ok(count + more)
 }
 
-fn align(packet: &[u8], at: Place, asked: u32) -> Reached
-    requires { at.bit < 8 }
-    ensures { Reaches (aligned (bits_of packet.now) asked (bit_of at)) tt result }
+fn align(bits: &mut BitCursor<'_>, asked: u32) -> Result<(), Refusal>
+    ensures { Reads (λ u. u) (λ packet. aligned packet asked) bits.old bits.new result }
 {
     if asked == 0 {
-        return Reached::At(at);
+        return Ok(());
     }
-    skip_to_byte(packet, at)
+    bits.skip_to_byte()
 }
 
 // The bytes of a data element, after its count.
-fn data_bytes(packet: &[u8], at: Place, asked: u32, bytes: u32) -> Reached
-    requires { at.bit < 8 }
-    ensures { Reaches (data_bytes (bits_of packet.now) asked bytes (bit_of at)) passed result }
+fn data_bytes(bits: &mut BitCursor<'_>, asked: u32, bytes: u32) -> Result<(), Refusal>
+    ensures { Reads (λ _. passed) (λ packet. data_bytes packet asked bytes) bits.old bits.new result }
 {
-    let aligned = align(packet, at, asked);
-    let Reached::At(next) = aligned else {
-        return aligned;
-    };
-    skip_bytes(packet, next, bytes)
+    align(bits, asked)?;
+    skip_bytes(bits, bytes)
 }
 
 // The instance tag ties the data to an audio element: nobody uses it.
-fn data_element(packet: &[u8], at: Place) -> Reached
-    requires { at.bit < 8 }
-    ensures { Reaches (data_element (bits_of packet.now) (bit_of at)) passed result }
+fn data_element(bits: &mut BitCursor<'_>) -> Result<(), Refusal>
+    ensures { Reads (λ _. passed) data_element bits.old bits.new result }
 {
-    let instance = read(packet, at, 4);
-    let Got::Value(_, flag) = instance else {
-        return Reached::Refused(Refusal::Short, at);
-    };
-    let asked = read_bit(packet, flag);
-    let Got::Value(asks, count) = asked else {
-        return Reached::Refused(Refusal::Short, flag);
-    };
-    let counted = data_count(packet, count);
-    match counted {
-        Got::Short(p) => Reached::Refused(Refusal::Short, p),
-        Got::Value(bytes, next) => data_bytes(packet, next, asks, bytes),
-    }
+    let _instance = bits.read(4)?;
+    let asked = bits.read_bit()?;
+    let bytes = data_count(bits)?;
+    data_bytes(bits, asked, bytes)
 }
 
 // Short count 15 is not ours to read.
-fn fill_element(packet: &[u8], at: Place) -> Reached
-    requires { at.bit < 8 }
-    ensures { Reaches (fill_element (bits_of packet.now) (bit_of at)) passed result }
+fn fill_element(bits: &mut BitCursor<'_>) -> Result<(), Refusal>
+    ensures { Reads (λ _. passed) fill_element bits.old bits.new result }
 {
-    let count = read(packet, at, 4);
-    let Got::Value(bytes, next) = count else {
-        return Reached::Refused(Refusal::Short, at);
-    };
+    let bytes = bits.read(4)?;
     if bytes == 15 {
-        return Reached::Refused(Refusal::Fill, next);
+        return Err(Refusal::Fill);
     }
-    skip_bytes(packet, next, bytes)
+    skip_bytes(bits, bytes)
 }
 
 // ---- One element of a packet: all eight tags are decided here.
@@ -100,126 +73,91 @@ fn fill_element(packet: &[u8], at: Place) -> Reached
 // The reader between two elements.
 #[derive(Clone, Copy)]
 pub struct State {
-    pub at: Place,
     pub channels: u32,
-    pub samples: Samples,
+    pub samples: Option<u32>,
 }
 
-// What an element came to: channels with their samples in scratch, nothing, the end with the sample number, or a refusal.
+// What an element came to: channels with their samples in scratch, nothing, or the end with the sample number.
 #[derive(Clone, Copy)]
 pub enum Element {
-    Audio(u32, u32, Place),
-    Passed(Place),
-    End(u32, Place),
-    Refused(Refusal, Place),
-}
-
-fn agree(known: Samples, n: u32) -> bool
-    ensures { result ≡ agrees known n }
-{
-    match known {
-        Samples::Open => true,
-        Samples::Known(k) => k == n,
-    }
-}
-
-fn number_known(known: Samples) -> u32
-    ensures { result ≡ number_known known }
-{
-    match known {
-        Samples::Open => 0,
-        Samples::Known(n) => n,
-    }
-}
-
-// A passed-over element's answer.
-fn passed_by(reached: Reached) -> Element
-    ensures { Passes reached result }
-{
-    match reached {
-        Reached::At(next) => Element::Passed(next),
-        Reached::Refused(refusal, at) => Element::Refused(refusal, at),
-    }
+    Audio { channels: u32, samples: u32 },
+    Passed,
+    End(u32),
 }
 
 // One channel or two: 5 is judged before the element, 15 after it.
 fn sound_element(
-    packet: &[u8],
+    bits: &mut BitCursor<'_>,
     s: StreamInfo,
     st: State,
-    at: Place,
     channels: u32,
     scratch: &mut [i32],
-) -> Element
-    requires { Sounding s st at channels scratch.old }
-    ensures { Turning s st.channels (sound_element (bits_of packet.now) s st.channels st.samples channels (bit_of at)) scratch.old scratch.new result }
+) -> Result<Element, Refusal>
+    requires { Sounding s st channels scratch.old }
+    ensures { Turning s st.channels (λ packet. sound_element packet s st.channels st.samples channels) bits.old bits.new scratch.old scratch.new result }
 {
-    let known = st.samples;
     if (s.num_channels as u32) < st.channels + channels {
-        return Element::Refused(Refusal::ManyChannels, at);
+        return Err(Refusal::ManyChannels);
     }
-    let heard = decode_audio_element(packet, s, at, channels, scratch);
-    match heard {
-        Heard::Refused(refusal, p) => Element::Refused(refusal, p),
-        Heard::Samples(n, next) => {
-            if agree(known, n) {
-                Element::Audio(channels, n, next)
-            } else {
-                Element::Refused(Refusal::Disagree, next)
-            }
-        }
+    let samples = decode_audio_element(bits, s, channels, scratch)?;
+    let known = st.samples.unwrap_or(samples);
+    if known != samples {
+        return Err(Refusal::Disagree);
     }
+    Ok(Element::Audio { channels, samples })
 }
 
-fn end_element(packet: &[u8], s: StreamInfo, st: State, at: Place) -> Element
-    requires { at.bit < 8 }
-    ensures { Ends s st.channels (end_element (bits_of packet.now) s st.channels st.samples (bit_of at)) result }
+// The sample number, if enough channels were heard.
+fn end_element(bits: &mut BitCursor<'_>, s: StreamInfo, st: State) -> Result<u32, Refusal>
+    ensures { Reads (λ n. end n) (λ packet. end_element packet s st.channels st.samples) bits.old bits.new result }
 {
-    let known = st.samples;
-    let edge = skip_to_byte(packet, at);
-    let Reached::At(next) = edge else {
-        return Element::Refused(Refusal::Short, at);
-    };
+    bits.skip_to_byte()?;
     if st.channels < s.num_channels as u32 {
-        return Element::Refused(Refusal::FewChannels, next);
+        return Err(Refusal::FewChannels);
     }
-    Element::End(number_known(known), next)
+    Ok(st.samples.unwrap_or(0))
 }
 
 // SCE 0, CPE 1, CCE 2, LFE 3, DSE 4, PCE 5, FIL 6, END 7.
-fn tagged_element(packet: &[u8], s: StreamInfo, st: State, scratch: &mut [i32]) -> Element
+fn tagged_element(
+    bits: &mut BitCursor<'_>,
+    s: StreamInfo,
+    st: State,
+    scratch: &mut [i32],
+) -> Result<Element, Refusal>
     requires { Turnable s st scratch.old }
-    ensures { Turning s st.channels (turn (bits_of packet.now) s st.channels st.samples (bit_of st.at)) scratch.old scratch.new result }
+    ensures { Turning s st.channels (λ packet. turn packet s st.channels st.samples) bits.old bits.new scratch.old scratch.new result }
 {
-    let at = st.at;
-    let got = read(packet, at, 3);
-    let Got::Value(tag, next) = got else {
-        return Element::Refused(Refusal::Short, at);
-    };
+    let tag = bits.read(3)?;
     match tag {
-        0 | 3 => sound_element(packet, s, st, next, 1, scratch),
-        1 => sound_element(packet, s, st, next, 2, scratch),
-        2 | 5 => Element::Refused(Refusal::Unsupported, next),
-        4 => passed_by(data_element(packet, next)),
-        6 => passed_by(fill_element(packet, next)),
-        _ => end_element(packet, s, st, next),
+        0 | 3 => sound_element(bits, s, st, 1, scratch),
+        1 => sound_element(bits, s, st, 2, scratch),
+        2 | 5 => Err(Refusal::Unsupported),
+        4 => {
+            data_element(bits)?;
+            Ok(Element::Passed)
+        }
+        6 => {
+            fill_element(bits)?;
+            Ok(Element::Passed)
+        }
+        _ => Ok(Element::End(end_element(bits, s, st)?)),
     }
 }
 
 // One element. A refusal leaves zeros in scratch.
-pub fn next_element(packet: &[u8], s: StreamInfo, st: State, scratch: &mut [i32]) -> Element
+pub fn next_element(
+    bits: &mut BitCursor<'_>,
+    s: StreamInfo,
+    st: State,
+    scratch: &mut [i32],
+) -> Result<Element, Refusal>
     requires { Turnable s st scratch.old }
-    ensures { Turns s st.channels (turn (bits_of packet.now) s st.channels st.samples (bit_of st.at)) scratch.old scratch.new result }
+    ensures { Turns s st.channels (λ packet. turn packet s st.channels st.samples) bits.old bits.new scratch.old scratch.new result }
 {
-    let half = s.frame_length as usize;
-    let element = tagged_element(packet, s, st, scratch);
-    match element {
-        Element::Audio(channels, n, next) => Element::Audio(channels, n, next),
-        Element::Passed(next) => Element::Passed(next),
-        Element::End(n, next) => Element::End(n, next),
-        Element::Refused(refusal, at) => {
-            clear_i32(scratch, 2 * half);
-            Element::Refused(refusal, at)
-        }
+    let element = tagged_element(bits, s, st, scratch);
+    if element.is_err() {
+        clear(scratch, 2 * s.frame_length as usize);
     }
+    element
 }

@@ -1,18 +1,16 @@
--- The promise of `rice_decompress`: how it is met, and that it permits one answer.
-use Rattle.std.proofs.Common.{◌≡◌, ℕ, List, length, replicate, ℤ, pos, sym, ap, ◌∙◌, append-nil, arith}
+-- How the promise of `rice_decompress` is met: the buffer is whole or it is cleared.
+use Rattle.std.proofs.Common.{◌≡◌, ℕ, true, false, List, length, replicate, ℤ, pos, Result, Ok, Err, is_err, ap, refl, ◌∙◌, append-nil, arith}
 use lib.ListN.{length-replicate}
 use lib.Seq.{drop-length}
-use Rattle.rules.specs.declared.Place.{Place}
 use Rattle.rules.specs.declared.Refusal.{Refusal}
-use Rattle.rules.specs.Answers.{Ans, answered}
+use Rattle.rules.specs.Answers.{Read, answered}
 use Rattle.rules.specs.Buffers.{cleared}
 use Rattle.rules.specs.Rice.{RiceData}
 use Rattle.laws.specs.Answers.{answered_got, answered_bad}
 use Rattle.laws.specs.Buffers.{laid-all}
-use Rattle.bitcursor.specs.declared.Reached.{Reached}
-use Rattle.bitcursor.specs.declared.Reached.TheVariants.{At, Refused}
-use Rattle.bitcursor.specs.Reads.{told_as, Reaches}
-use Rattle.bitcursor.proofs.Laws.{reached_of, refused_of, reaches_same}
+use Rattle.bitcursor.specs.Cursor.{Cursor}
+use Rattle.bitcursor.specs.Reads.{told, Reads}
+use Rattle.bitcursor.proofs.Laws.{value_of, refused_of}
 use Rattle.dec_rice.specs.Promise.{filled, Decompressed}
 use Rattle.dec_rice.specs.Steps.{residuals_of}
 
@@ -21,24 +19,22 @@ cleared-whole : (xs : List ℤ) → cleared (pos 0) (length xs) xs ≡ replicate
 cleared-whole xs =
     rw (laid-all (replicate (length xs) (pos 0)) xs (rw length-replicate (omega arith)), length-replicate, drop-length, append-nil)
 
--- ---- how the promise is met
+module _ {rule : List ℕ → Read RiceData} {was is : Cursor} {old buf : List ℤ} where
+  pub met_whole : (r : Result (Unit {0}) Refusal) → Reads (λ u. buf) (λ bits p. residuals_of (rule bits p)) was is r → is_err r ≡ false
+      → Decompressed rule was is old buf r
+  unfolding answered told filled
+  met_whole (Ok u) t e =
+      let d = answered_got (λ d. d.residuals) (rule was.bits was.at) (value_of t refl) in
+      record { reads = record { tells = rw d.1; same = t.same }; buffer = rw d.1 d.2 }
+  met_whole (Err x) t e = absurd (cc)
 
-module _ {a : Ans RiceData} {xs was : List ℤ} {r : Reached} (s : Reaches (residuals_of a) xs r) where
-  pub met_whole : {pl : Place} → r ≡ At pl → Decompressed a was xs r
-  unfolding answered told_as filled
-  met_whole k =
-      let t = answered_got (λ d. d.residuals) a (reached_of s k) in
-      record { reaches = record { tells = rw (k, t.1); plain = s.plain }; buffer = rw t.1 t.2 }
-
-  pub met_refused : {is : List ℤ} {x : Refusal} {pl : Place} → r ≡ Refused x pl → length xs ≡ length was → is ≡ cleared (pos 0) (length xs) xs
-      → Decompressed a was is r
-  unfolding answered told_as filled
-  met_refused k l z =
-      let t = answered_bad (λ d. d.residuals) a (refused_of s k) in
-      let e = z ∙ cleared-whole xs ∙ ap (λ (n : ℕ). replicate n (pos 0)) l in
-      record { reaches = record { tells = rw (k, t); plain = s.plain }; buffer = rw t e }
-
--- the promise permits one answer
-pub decompressed_same : {a : Ans RiceData} {was is js : List ℤ} (r s : Reached) → Decompressed a was is r → Decompressed a was js s
-    → (r ≡ s) × (is ≡ js)
-decompressed_same r s p q = (reaches_same r s p.reaches q.reaches, p.buffer ∙ sym q.buffer)
+  pub met_cleared : (r : Result (Unit {0}) Refusal) → Reads (λ u. buf) (λ bits p. residuals_of (rule bits p)) was is r → is_err r ≡ true
+      → {buf' : List ℤ} → length buf ≡ length old → buf' ≡ cleared (pos 0) (length buf) buf → Decompressed rule was is old buf' r
+  unfolding answered told filled
+  met_cleared (Ok u) t e l z = absurd (cc)
+  met_cleared (Err x) t e l z =
+      let d = answered_bad (λ d. d.residuals) (rule was.bits was.at) (refused_of t refl) in
+      record {
+        reads = record { tells = rw d; same = t.same };
+        buffer = rw d (z ∙ cleared-whole buf ∙ ap (λ (n : ℕ). replicate n (pos 0)) l);
+      }

@@ -1,4 +1,3 @@
 mod Symbols
-mod Samples
 mod Loop
-pub mod Laws
+mod Laws

@@ -1,28 +1,15 @@
--- What the symbol's reader goes by: reads one after another, the ones that were counted, and the bounds of its numbers.
-use Rattle.std.proofs.Common.{◌≡◌, ℕ, zero, suc, ◌+◌, ◌-◌, ◌*◌, ◌%◌, ◌^◌, ◌<◌, ◌≤◌, eqb, List, sym, refl, ap, ◌∙◌, one-mul, arith, pow_mono, shl_exact, eq-eqb, ne_eqb}
+-- What the symbol's reader goes by: the ones that were counted, and the bounds of its numbers.
+use Rattle.std.proofs.Common.{◌≡◌, ℕ, zero, suc, ◌+◌, ◌-◌, ◌*◌, ◌^◌, ◌<◌, ◌≤◌, List, Result, Ok, Err, sym, refl, ap, ◌∙◌, arith, mul-le-mul, lt_of_lt_of_le, pow_mono}
 use native.Mathlib.Decide.{dec_le}
+use native.Mathlib.Nat.{sub-zero}
 use lib.Count.{count_leading_zeros, leading_length}
-use Rattle.rules.specs.declared.Place.{Place}
-use Rattle.rules.specs.Answers.{Ans, got, bad, pick, bind, answered, Read, ◌>>=◌, give}
-use Rattle.rules.specs.Bits.{bit_of, field}
-use Rattle.rules.specs.Symbol.{ones, rest}
-use Rattle.bitcursor.specs.declared.Got.{Got}
-use Rattle.bitcursor.specs.declared.Got.TheVariants.{Value, Short}
-use Rattle.bitcursor.specs.Reads.{told, Plain, Reads}
-use Rattle.bitcursor.proofs.Laws.{value_of, short_of, plain_of}
-
--- ---- one read after another
-
-module _ {a : Ans ℕ} {g : Got} (r : Reads a g) (next : ℕ → Read ℕ) where
-  pub read_ends : {pl : Place} → g ≡ Short pl → Reads (bind a next) g
-  unfolding bind
-  read_ends k =
-      let e = short_of r k in
-      record { tells = r.tells ∙ e ∙ sym (ap (λ (x : Ans ℕ). bind x next) e); plain = r.plain }
-
-  pub read_on : {v : ℕ} {pl : Place} {h : Got} → g ≡ Value v pl → Reads (next v (bit_of pl)) h → Reads (bind a next) h
-  unfolding bind
-  read_on k s = rw (value_of r k) s
+use Rattle.rules.specs.declared.Refusal.{Refusal}
+use Rattle.rules.specs.Answers.{Ans, got, bad, bind, answered, Read, ◌>>=◌, give}
+use Rattle.rules.specs.Bits.{field}
+use Rattle.rules.specs.Symbol.{ones}
+use Rattle.bitcursor.specs.Cursor.{Cursor}
+use Rattle.bitcursor.specs.Reads.{told, Reads}
+use Rattle.bitcursor.proofs.Laws.{value_of, refused_of, read_lt}
 
 -- ---- ones
 
@@ -32,104 +19,82 @@ unfolding answered bind
 more_one q (got n p) = ap (λ (x : ℕ). got x p) (omega arith)
 more_one q (bad x p) = refl
 
--- a value of at most n
-unfoldable pub AtMost : ℕ → Ans ℕ → Type 0
-AtMost n (got v p) = v ≤ n
-AtMost n (bad x p) = Unit {0}
+-- q ones were counted, and the rest of n is to come
+pub record Counted (n : ℕ) (was is : Cursor) (q : ℕ) : Type 0 where
+  pub q_le : q ≤ n
+  pub go : ones was.bits n was.at ≡ answered (λ x. q + x) (ones was.bits (n - q) is.at)
+  pub same : is.bits ≡ was.bits
 
-module _ (bits : List ℕ) where
-  -- q ones are counted, and the rest of nine is to come
-  unfoldable pub ones_from : ℕ → Read ℕ
-  ones_from q p = answered (λ n. q + n) (ones bits (9 - q) p)
+pub counted_none : {n : ℕ} {was : Cursor} → Counted n was was 0
+unfolding answered
+counted_none {n} {was} = record { q_le = omega arith; go = rw sub-zero (go (ones was.bits n was.at)); same = refl }
+  where
+    go : (a : Ans ℕ) → a ≡ answered (λ x. 0 + x) a
+    go (got x q) = ap (λ (y : ℕ). got y q) (omega arith)
+    go (bad x q) = refl
 
-  pub ones-start : (p : ℕ) → ones bits 9 p ≡ ones_from 0 p
-  unfolding ones_from answered
-  ones-start p = go (ones bits 9 p)
-    where
-      go : (a : Ans ℕ) → a ≡ answered (λ n. 0 + n) a
-      go (got n q) = ap (λ (x : ℕ). got x q) (omega arith)
-      go (bad x q) = refl
+module _ {n : ℕ} {was mid : Cursor} {q : ℕ} (g : Counted n was mid q) where
+  pub counted_all : n ≤ q → Reads (λ x. x) (λ bits. ones bits n) was mid (Ok n)
+  unfolding ones answered told
+  counted_all l =
+      let e : q ≡ n = omega (arith, g.q_le) in
+      let z : n - n ≡ 0 = omega arith in
+      let whole : ones was.bits n was.at ≡ got (n + 0) mid.at = rw (e, z) at g.go in
+      record { tells = sym (whole ∙ ap (λ (x : ℕ). got x mid.at) (omega arith)); same = g.same }
 
-  pub ones_full : (p : ℕ) → ones_from 9 p ≡ got 9 p
-  unfolding ones_from answered ones
-  ones_full p = refl
+  module _ (l : q < n) {is : Cursor} {r : Result ℕ Refusal} (t : Reads (λ v. v) (λ bits. field bits 1) mid is r) where
+    left : n - q ≡ suc (n - (q + 1))
+    left = omega arith
 
-  module _ (q p : ℕ) (h : q < 9) {g : Got} (r : Reads (field bits 1 p) g) where
-    pub ones_cut : {pl : Place} → g ≡ Short pl → Reads (ones_from q p) g
-    unfolding ones_from answered ones bind
-    ones_cut k =
-        let l : 9 - q ≡ suc (9 - (q + 1)) = omega arith in
-        record { tells = rw (l, short_of r k) (r.tells ∙ short_of r k); plain = r.plain }
+    pub counted_cut : {x : Refusal} → r ≡ Err x → Reads (λ x. x) (λ bits. ones bits n) was is (Err x)
+    unfolding ones answered bind told
+    counted_cut {x} k =
+        let e : field was.bits 1 mid.at ≡ bad x is.at = rw g.same at (refused_of t k) in
+        record { tells = sym (rw (left, e) at g.go); same = t.same ∙ g.same }
 
-    pub ones_end : {v : ℕ} {pl : Place} → g ≡ Value v pl → v ≡ 0 → Reads (ones_from q p) (Value q pl)
-    unfolding ones_from answered ones bind told Plain
-    ones_end {v} {pl} k z =
-        let l : 9 - q ≡ suc (9 - (q + 1)) = omega arith in
-        record { tells = rw (l, value_of r k, z) (ap (λ (x : ℕ). got x (bit_of pl)) (omega arith)); plain = plain_of r k }
+    pub counted_end : {v : ℕ} → r ≡ Ok v → v ≡ 0 → Reads (λ x. x) (λ bits. ones bits n) was is (Ok q)
+    unfolding ones answered bind told
+    counted_end {v} k z =
+        let e : field was.bits 1 mid.at ≡ got v is.at = rw g.same at (value_of t k) in
+        record { tells = sym ((rw (left, e, z) at g.go) ∙ ap (λ (x : ℕ). got x is.at) (omega arith)); same = t.same ∙ g.same }
 
-    pub ones-next : {v : ℕ} {pl : Place} → g ≡ Value v pl → (v ≡ 0 → ⊥) → ones_from q p ≡ ones_from (q + 1) (bit_of pl)
-    unfolding ones_from ones bind
-    ones-next {v} {pl} k z =
-        let l : 9 - q ≡ suc (9 - (q + 1)) = omega arith in
+    pub counted_next : {v : ℕ} → r ≡ Ok v → (v ≡ 0 → ⊥) → Counted n was is (q + 1)
+    unfolding ones bind
+    counted_next {v} k z =
+        let e : field was.bits 1 mid.at ≡ got v is.at = rw g.same at (value_of t k) in
         let w : v ≡ suc (v - 1) = omega arith in
-        rw (l, value_of r k, w) (more_one q (ones bits (9 - (q + 1)) (bit_of pl)))
+        record {
+          q_le = omega arith;
+          go = (rw (left, e, w) at g.go) ∙ more_one q (ones was.bits (n - (q + 1)) is.at);
+          same = t.same ∙ g.same;
+        }
 
-  pub ones_most : (n p : ℕ) → AtMost n (ones bits n p)
-  unfolding AtMost ones bind
-  ones_most zero p = omega arith
-  ones_most (suc n) p = first (field bits 1 p) (λ i. later (ones bits n i) (ones_most n i))
-    where
-      later : (a : Ans ℕ) → AtMost n a → AtMost (suc n) (bind a (λ q i. got (suc q) i))
-      later (got q i) h = omega arith
-      later (bad x i) h = tt
+-- no more than were asked for
+ones_le : (bits : List ℕ) (n p : ℕ) {v i : ℕ} → ones bits n p ≡ got v i → v ≤ n
+unfolding ones bind
+ones_le bits zero p {v} e = let z : v ≡ 0 = cc in omega arith
+ones_le bits (suc n) p {v} {i} e = first (field bits 1 p) e (λ j. later (ones bits n j) (λ w k. ones_le bits n j))
+  where
+    later : (a : Ans ℕ) → ((w k : ℕ) → a ≡ got w k → w ≤ n) → bind a (λ q k. got (suc q) k) ≡ got v i → v ≤ suc n
+    later (got q k) f h = let l : q ≤ n = f q k refl in let w : v ≡ suc q = cc in omega arith
+    later (bad x k) f h = let z : ◌≡◌ {A = ℕ} 0 1 = cc in absurd (omega arith)
 
-      first : (a : Ans ℕ) → ((i : ℕ) → AtMost (suc n) (bind (ones bits n i) (λ q i. got (suc q) i)))
-          → AtMost (suc n) (bind a (λ bit. elim bit as (λ d. Read ℕ) [ zero ↦ give 0 | suc d ↦ ones bits n >>= (λ q. give (suc q)) ]))
-      first (got zero i) h = omega arith
-      first (got (suc d) i) h = h i
-      first (bad x i) h = tt
+    first : (a : Ans ℕ) → bind a (λ bit. elim bit as (λ d. Read ℕ) [ zero ↦ give 0 | suc d ↦ ones bits n >>= (λ q. give (suc q)) ]) ≡ got v i
+        → ((j : ℕ) → bind (ones bits n j) (λ q k. got (suc q) k) ≡ got v i → v ≤ suc n) → v ≤ suc n
+    first (got zero j) h f = let z : v ≡ 0 = cc in omega arith
+    first (got (suc d) j) h f = f j h
+    first (bad x j) h f = let z : ◌≡◌ {A = ℕ} 0 1 = cc in absurd (omega arith)
 
--- ---- what follows q ones
+module _ {was is : Cursor} {r : Result ℕ Refusal} where
+  -- nine ones at most, and so the product fits
+  pub ones_product : Reads (λ x. x) (λ bits. ones bits 9) was is r → {q m : ℕ} → r ≡ Ok q → m < 65536 → q * m ≤ 9 * 65535
+  ones_product t {q} {m} k h = let d : m ≤ 65535 = omega arith in mul-le-mul (ones_le was.bits 9 was.at (value_of t k)) d
 
-module _ (bits : List ℕ) (k m b q : ℕ) where
-  abbrev pub after_ones : Read ℕ
-  after_ones = pick (eqb q 9) (field bits b) (rest bits q k m)
-
-  pub after_nine : (p : ℕ) → q ≡ 9 → after_ones p ≡ field bits b p
-  after_nine p e = rw (eq-eqb q 9 e)
-
-  module _ (not-nine : q ≡ 9 → ⊥) where
-    pub after_alone : {pl : Place} → k ≡ 1 → pl.bit < 8 → Reads (after_ones (bit_of pl)) (Value q pl)
-    unfolding rest told Plain
-    after_alone e l = record { tells = rw (ne_eqb q 9 not-nine, eq-eqb k 1 e); plain = l }
-
-    module _ (not-one : k ≡ 1 → ⊥) (p : ℕ) {g : Got} (r : Reads (field bits (k - 1) p) g) where
-      pub high_cut : {pl : Place} → g ≡ Short pl → Reads (after_ones p) g
-      unfolding rest
-      high_cut e = rw (ne_eqb q 9 not-nine, ne_eqb k 1 not-one) (read_ends r _ e)
-
-      module _ {v : ℕ} {pl : Place} (e : g ≡ Value v pl) where
-        pub high_zero : v ≡ 0 → Reads (after_ones p) (Value (q * m) pl)
-        unfolding rest bind told Plain
-        high_zero z = record { tells = rw (ne_eqb q 9 not-nine, ne_eqb k 1 not-one, value_of r e, z); plain = plain_of r e }
-
-        module _ (not-zero : v ≡ 0 → ⊥) {t : Got} (s : Reads (field bits 1 (bit_of pl)) t) where
-          pub low_cut : {ql : Place} → t ≡ Short ql → Reads (after_ones p) t
-          unfolding rest bind
-          low_cut f =
-              let w : v ≡ suc (v - 1) = omega arith in
-              rw (ne_eqb q 9 not-nine, ne_eqb k 1 not-one, value_of r e, w) (read_ends s (λ low. give (q * m + (suc (v - 1) * 2 + low - 1))) f)
-
-          pub low_value : {d : ℕ} {ql : Place} → t ≡ Value d ql → Reads (after_ones p) (Value (q * m + (v * 2 + d - 1)) ql)
-          unfolding rest bind told Plain
-          low_value f =
-              let w : v ≡ suc (v - 1) = omega arith in
-              record { tells = rw (ne_eqb q 9 not-nine, ne_eqb k 1 not-one, value_of r e, w, value_of s f); plain = plain_of s f }
+  -- all bits of the remainder but the last
+  pub high_lt : {k : ℕ} → Reads (λ x. x) (λ bits. field bits (k - 1)) was is r → k ≤ 16 → {v : ℕ} → r ≡ Ok v → v < 2 ^ 15
+  high_lt {k} t h e = lt_of_lt_of_le (read_lt (k - 1) t e) (pow_mono {i = k - 1} {j = 15} (omega arith))
 
 -- ---- numbers
-
-pub bit_at : (k : ℕ) → k < 32 → (1 * 2 ^ k) % 2 ^ 32 ≡ 2 ^ k
-bit_at k h = shl_exact 1 k 32 (omega arith) (omega arith) ∙ one-mul (2 ^ k)
 
 pub leading_small : (h : ℕ) → h < 128 → 24 ≤ count_leading_zeros 32 h
 leading_small h l = let t = leading_length 32 h (omega arith) in go t.0 t.1 t.3 (dec_le 9 t.0)

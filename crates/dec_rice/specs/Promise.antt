@@ -1,9 +1,10 @@
 -- What the crate's public functions require, and what `rice_decompress` promises.
-use Rattle.std.specs.Prelude.{◌≡◌, ℕ, ◌<◌, ◌≤◌, List, length, replicate, ℤ, pos}
-use Rattle.rules.specs.Answers.{Ans, got, bad, answered}
+use Rattle.std.specs.Prelude.{◌≡◌, ℕ, ◌<◌, ◌≤◌, List, length, replicate, ℤ, pos, Result}
+use Rattle.rules.specs.declared.Refusal.{Refusal}
+use Rattle.rules.specs.Answers.{Ans, got, bad, answered, Read}
 use Rattle.rules.specs.Rice.{RiceData}
-use Rattle.bitcursor.specs.declared.Reached.{Reached}
-use Rattle.bitcursor.specs.Reads.{Reaches}
+use Rattle.bitcursor.specs.Cursor.{Cursor}
+use Rattle.bitcursor.specs.Reads.{Reads}
 use Rattle.dec_rice.specs.declared.Coding.{Coding}
 
 -- a symbol of k bits and m whose value fits a word, or of b raw bits
@@ -28,6 +29,6 @@ filled n (bad x p) = replicate n (pos 0)
 abbrev pub place_after : Ans RiceData → Ans (Unit {0})
 place_after a = answered (λ d. tt) a
 
-pub record Decompressed (a : Ans RiceData) (was is : List ℤ) (r : Reached) : Type 0 where
-  pub reaches : Reaches (place_after a) tt r
-  pub buffer : is ≡ filled (length was) a
+pub record Decompressed (rule : List ℕ → Read RiceData) (was is : Cursor) (buf buf' : List ℤ) (r : Result (Unit {0}) Refusal) : Type 0 where
+  pub reads : Reads (λ _. tt) (λ packet p. place_after (rule packet p)) was is r
+  pub buffer : buf' ≡ filled (length buf) (rule was.bits was.at)

@@ -1,17 +1,16 @@
 // Rice symbols, and the residuals of a channel that they carry.
 #![tactic(auto)]
 
-ghost use Rattle.std.specs.Prelude.{◌≡◌, ◌<◌, length};
-ghost use Rattle.rules.specs.Bits.{bit_of, bits_of};
+ghost use Rattle.std.specs.Prelude.{◌≡◌, ◌<◌, length, IfOk};
 ghost use Rattle.rules.specs.Symbol.{ones, symbol};
-ghost use Rattle.rules.specs.Rice.{symbol_k, symbol_m, run_k, history_after, after_value, sample, rice};
-ghost use Rattle.bitcursor.specs.Reads.{Reads, Reaches};
+ghost use Rattle.rules.specs.Rice.{symbol_k, symbol_m, run_k, history_after, run_at, after_value, sample, rice};
+ghost use Rattle.bitcursor.specs.Reads.{Reads};
 ghost use Rattle.dec_rice.specs.Promise.{Sizes, Coded, Decompressed};
-ghost use Rattle.dec_rice.specs.Steps.{Tracked, Running, Ready, place_in, residuals_of, step_after_run, Takes};
+ghost use Rattle.dec_rice.specs.Steps.{Tracked, Running, Ready, Kept, step_of, residuals_of};
 
-use bitcursor::{Got, Reached, read, read_bit};
-use buffers::clear_i32;
-use rules::{Place, Refusal};
+use bitcursor::BitCursor;
+use buffers::clear;
+use rules::Refusal;
 use words::unfold;
 
 // What a channel's Rice data is read with: the stream's kb, the channel's factor and its bits.
@@ -22,83 +21,52 @@ pub struct Coding {
     pub bits: u32,
 }
 
+// What a sample starts from: the history, what its symbol gains, and the zeros that a run still owes.
+#[derive(Clone, Copy)]
+struct State {
+    history: u32,
+    plus: u32,
+    owed: usize,
+}
+
 // A sample's value, and what the next sample starts from.
 #[derive(Clone, Copy)]
 struct Step {
     value: u32,
-    history: u32,
-    owed: usize,
-    plus: u32,
-}
-
-// A sample and the place after it, or why not, and where.
-#[derive(Clone, Copy)]
-enum Took {
-    Sample(Step, Place),
-    Refused(Refusal, Place),
+    next: State,
 }
 
 // The ones before a zero, at most 9.
-fn count_ones(packet: &[u8], start: Place) -> Got
-    ensures { Reads (ones (bits_of packet.now) 9 (bit_of start)) result }
+fn count_ones(bits: &mut BitCursor<'_>) -> Result<u32, Refusal>
+    ensures { Reads (λ q. q) (λ packet. ones packet 9) bits.old bits.new result }
 {
-    let mut at = Place {
-        byte: start.byte,
-        bit: start.bit % 8,
-    };
-    let mut q: u32 = 0;
-    while q < 9 {
-        let got = read_bit(packet, at);
-        let Got::Value(bit, next) = got else {
-            return got;
-        };
-        if bit == 0 {
-            return Got::Value(q, next);
+    for q in 0..9 {
+        if bits.read_bit()? == 0 {
+            return Ok(q);
         }
-        at.byte = next.byte;
-        at.bit = next.bit;
-        q += 1;
     }
-    Got::Value(q, at)
+    Ok(9)
 }
 
 // m is 2^k - 1 and not 2^k, so k = 1 leaves no remainder and k is never 0. It is passed, since a run's is masked.
-fn decode_rice_symbol(packet: &[u8], at: Place, m: u32, k: u32, bps: u32) -> Got
+fn decode_rice_symbol(bits: &mut BitCursor<'_>, m: u32, k: u32, bps: u32) -> Result<u32, Refusal>
     requires { Sizes k m bps }
-    ensures { Reads (symbol (bits_of packet.now) k m bps (bit_of at)) result }
+    ensures { Reads (λ v. v) (λ packet. symbol packet k m bps) bits.old bits.new result }
 {
-    let count = count_ones(packet, at);
-    let Got::Value(q, next) = count else {
-        return count;
-    };
+    let q = count_ones(bits)?;
     if q == 9 {
-        return read(packet, next, bps);
+        return bits.read(bps);
     }
     if k == 1 {
-        return count;
+        return Ok(q);
     }
     // The remainder r stands as r + 1 in k bits; r = 0 as k - 1 zeros, without the last bit.
-    let high = read(packet, next, k - 1);
-    let Got::Value(upper, after) = high else {
-        return high;
-    };
-    if upper == 0 {
-        return Got::Value(q * m, after);
+    let high = bits.read(k - 1)?;
+    if high == 0 {
+        return Ok(q * m);
     }
-    let last = read_bit(packet, after);
-    let Got::Value(low, end) = last else {
-        return last;
-    };
-    Got::Value(q * m + (upper * 2 + low - 1), end)
-}
-
-fn place_of(got: Got) -> Place
-    ensures { result ≡ place_in got }
-{
-    match got {
-        Got::Value(_, at) => at,
-        Got::Short(at) => at,
-    }
+    let low = bits.read_bit()?;
+    Ok(q * m + (high * 2 + low - 1))
 }
 
 // The log2 of 3 or more is at least 1.
@@ -138,115 +106,103 @@ pub fn next_history(factor: u32, h: u32, v: u32) -> u32
     h + v * factor - ((h * factor) >> 9)
 }
 
-// The run that follows the value v. Its k may be above kb: only m is masked.
-fn after_run(packet: &[u8], at: Place, c: Coding, h: u32, left: usize, v: u32) -> Took
+// The run that follows a value, with `left` samples to come. Its k may be above kb: only m is masked.
+fn after_run(bits: &mut BitCursor<'_>, c: Coding, h: u32, left: usize) -> Result<usize, Refusal>
     requires { Running c h }
-    ensures { Takes (step_after_run (symbol (bits_of packet.now)) c.factor c.kb c.bits h left v (bit_of at)) result }
+    ensures { Reads (λ run. run) (λ packet. run_at (symbol packet) c.factor c.kb c.bits h left) bits.old bits.new result }
 {
     let k = run_k(h);
     let m = symbol_m(k) & symbol_m(c.kb);
-    let got = decode_rice_symbol(packet, at, m, k, 16);
-    let Got::Value(z, next) = got else {
-        return Took::Refused(Refusal::Short, place_of(got));
-    };
-    let run = z as usize;
+    let run = decode_rice_symbol(bits, m, k, 16)? as usize;
     if left < run {
-        return Took::Refused(Refusal::Run, next);
+        return Err(Refusal::Run);
     }
-    Took::Sample(
-        Step {
-            value: v,
+    Ok(run)
+}
+
+// What follows a value that was read, with `left` samples to come.
+fn after_value(
+    bits: &mut BitCursor<'_>,
+    c: Coding,
+    h: u32,
+    left: usize,
+    value: u32,
+) -> Result<Step, Refusal>
+    requires { Ready c h }
+    ensures reads { Reads step_of (λ packet. after_value (symbol packet) c.factor c.kb c.bits h left value) bits.old bits.new result }
+    ensures kept { IfOk result (λ s. Kept s.next) }
+{
+    let history = next_history(c.factor, h, value);
+    if left > 0 && history < 128 {
+        let owed = after_run(bits, c, history, left)?;
+        let next = State {
             history: 0,
-            owed: run,
             plus: 1,
-        },
-        next,
-    )
-}
-
-// The value v was read before `at`, and `left` samples come after it.
-fn after_value(packet: &[u8], at: Place, c: Coding, h: u32, left: usize, v: u32) -> Took
-    requires { Ready c h at }
-    ensures { Takes (after_value (symbol (bits_of packet.now)) c.factor c.kb c.bits h left v (bit_of at)) result }
-{
-    let next = next_history(c.factor, h, v);
-    if left > 0 && next < 128 {
-        return after_run(packet, at, c, next, left, v);
+            owed,
+        };
+        return Ok(Step { value, next });
     }
-    Took::Sample(
-        Step {
-            value: v,
-            history: next,
-            owed: 0,
-            plus: 0,
-        },
-        at,
-    )
+    let next = State {
+        history,
+        plus: 0,
+        owed: 0,
+    };
+    Ok(Step { value, next })
 }
 
-fn next_sample(packet: &[u8], at: Place, c: Coding, h: u32, plus: u32, left: usize) -> Took
-    requires { Ready c h at }
-    ensures { Takes (sample (symbol (bits_of packet.now)) c.factor c.kb c.bits h plus left (bit_of at)) result }
+fn next_sample(
+    bits: &mut BitCursor<'_>,
+    c: Coding,
+    state: State,
+    left: usize,
+) -> Result<Step, Refusal>
+    requires { Ready c state.history }
+    ensures reads { Reads step_of (λ packet. sample (symbol packet) c.factor c.kb c.bits state.history state.plus left) bits.old bits.new result }
+    ensures kept { IfOk result (λ s. Kept s.next) }
 {
-    let k = symbol_k(c.kb, h);
-    let got = decode_rice_symbol(packet, at, symbol_m(k), k, c.bits);
-    let Got::Value(s, next) = got else {
-        return Took::Refused(Refusal::Short, place_of(got));
-    };
-    after_value(
-        packet,
-        next,
-        c,
-        h,
-        left,
-        std::num::wrapping_add_u32(s, plus),
-    )
+    let k = symbol_k(c.kb, state.history);
+    let s = decode_rice_symbol(bits, symbol_m(k), k, c.bits)?;
+    let value = std::num::wrapping_add_u32(s, state.plus);
+    after_value(bits, c, state.history, left, value)
 }
 
 // All samples; after a refusal `buf` holds those before it.
-fn read_samples(packet: &[u8], start: Place, c: Coding, mb: u8, buf: &mut [i32]) -> Reached
+fn read_samples(bits: &mut BitCursor<'_>, c: Coding, mb: u8, buf: &mut [i32]) -> Result<(), Refusal>
     requires { Coded c }
-    ensures { Reaches (residuals_of (rice (symbol (bits_of packet.now)) c.factor c.kb c.bits (length buf.old) 0 mb 0 (bit_of start))) buf.new result }
+    ensures { Reads (λ _. buf.new) (λ packet p. residuals_of (rice (symbol packet) c.factor c.kb c.bits (length buf.old) 0 mb 0 p)) bits.old bits.new result }
 {
-    let mut at = Place {
-        byte: start.byte,
-        bit: start.bit % 8,
+    let mut state = State {
+        history: mb as u32,
+        plus: 0,
+        owed: 0,
     };
-    let mut history = mb as u32;
-    let mut plus: u32 = 0;
-    let mut owed: usize = 0;
-    let mut i = 0;
-    while i < buf.len() {
-        if owed > 0 {
+    for i in 0..buf.len() {
+        if state.owed > 0 {
             buf[i] = 0;
-            owed -= 1;
+            state.owed -= 1;
         } else {
-            let took = next_sample(packet, at, c, history, plus, buf.len() - 1 - i);
-            match took {
-                Took::Refused(x, p) => return Reached::Refused(x, p),
-                Took::Sample(s, next) => {
-                    buf[i] = unfold(s.value);
-                    at.byte = next.byte;
-                    at.bit = next.bit;
-                    history = s.history;
-                    plus = s.plus;
-                    owed = s.owed;
-                }
-            }
+            let step = next_sample(bits, c, state, buf.len() - 1 - i)?;
+            buf[i] = unfold(step.value);
+            state = step.next;
         }
-        i += 1;
     }
-    Reached::At(at)
+    Ok(())
 }
 
-pub fn rice_decompress(packet: &[u8], start: Place, c: Coding, mb: u8, buf: &mut [i32]) -> Reached
+// A channel's residuals; all zero after a refusal.
+pub fn rice_decompress(
+    bits: &mut BitCursor<'_>,
+    c: Coding,
+    mb: u8,
+    buf: &mut [i32],
+) -> Result<(), Refusal>
     requires { Coded c }
-    ensures { Decompressed (rice (symbol (bits_of packet.now)) c.factor c.kb c.bits (length buf.old) 0 mb 0 (bit_of start)) buf.old buf.new result }
+    ensures { Decompressed (λ packet. rice (symbol packet) c.factor c.kb c.bits (length buf.old) 0 mb 0) bits.old bits.new buf.old buf.new result }
 {
-    let reached = read_samples(packet, start, c, mb, buf);
-    if let Reached::Refused(_, _) = reached {
-        let places = buf.len();
-        clear_i32(buf, places);
+    let answer = read_samples(bits, c, mb, buf);
+    if answer.is_err() {
+        let n = buf.len();
+        clear(buf, n);
     }
-    reached
+    answer
 }

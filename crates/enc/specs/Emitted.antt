@@ -1,9 +1,8 @@
 -- What the parts of the writer ask and promise, from the parameters to the whole packet.
-use Rattle.std.specs.Prelude.{ℕ, ◌^◌, ◌≤◌, ◌<◌, ◌≡◌, List, map, length, leb, ℤ, pos}
+use Rattle.std.specs.Prelude.{ℕ, ◌^◌, ◌≤◌, ◌<◌, ◌≡◌, List, map, length, leb, ℤ, pos, Result, Ok, Err}
 use Rattle.rules.specs.declared.StreamInfo.{StreamInfo}
 use Rattle.rules.specs.declared.PackingSettings.{PackingSettings}
-use Rattle.rules.specs.declared.Packed.{Packed}
-use Rattle.rules.specs.declared.Packed.TheVariants.{Accepted, Refused}
+use Rattle.rules.specs.declared.Refusal.{Refusal}
 use Rattle.rules.specs.declared.Refusal.TheVariants.{Bytes}
 use Rattle.rules.specs.Answers.{pick}
 use Rattle.rules.specs.Stream.{scratch_places}
@@ -46,7 +45,7 @@ pub record Emitted (s : StreamInfo) (t : PackingSettings) (passage : List ℤ) (
   pub left : scr' ≡ cleared (pos 0) (scratch_places s) scr
 
 -- the packet, or 21 and no byte touched
-pub record Packing (s : StreamInfo) (t : PackingSettings) (passage : List ℤ) (was is : List ℕ) (scr scr' : List ℤ) (r : Packed) : Type 0 where
-  pub answer : r ≡ pick (leb (length (packet_bytes s t passage)) (length was)) (Accepted (length (packet_bytes s t passage))) (Refused Bytes)
+pub record Packing (s : StreamInfo) (t : PackingSettings) (passage : List ℤ) (was is : List ℕ) (scr scr' : List ℤ) (r : Result ℕ Refusal) : Type 0 where
+  pub answer : r ≡ pick (leb (length (packet_bytes s t passage)) (length was)) (Ok (length (packet_bytes s t passage))) (Err Bytes)
   pub bytes : is ≡ pick (leb (length (packet_bytes s t passage)) (length was)) (laid (packet_bytes s t passage) was) was
   pub left : scr' ≡ cleared (pos 0) (scratch_places s) scr

@@ -9,11 +9,11 @@ ghost use Rattle.enc.specs.Fits.{Limited, Fits};
 ghost use Rattle.enc.specs.Promise.{Promise};
 ghost use Rattle.enc.specs.Emitted.{Paramable, Writing, Wrote, Emitting, Emitted, Packing};
 
-use buffers::clear_i32;
-use enc_bits::{Sink, put_end, put_head, put_params};
+use buffers::clear;
+use enc_bits::Sink;
 use enc_channel::put_channel;
-use rules::{ChannelSettings, Packed, PackingSettings, Refusal, StreamInfo};
-use stream::{accepted, takes_i32};
+use rules::{ChannelSettings, PackingSettings, Refusal, StreamInfo};
+use stream::accepts;
 
 // ---- What the writer takes: refusals 19 and 20, and how long a packet can be.
 
@@ -30,10 +30,8 @@ fn channel_in_range(s: StreamInfo, c: ChannelSettings) -> bool
 fn channels_in_range(s: StreamInfo, t: PackingSettings) -> bool
     ensures { result ≡ all_of (channel_in_range s) (settings_used s t) }
 {
-    let one = t.first;
-    let two = t.second;
-    let first = channel_in_range(s, one);
-    let second = channel_in_range(s, two);
+    let first = channel_in_range(s, t.first);
+    let second = channel_in_range(s, t.second);
     ((s.num_channels < 1) | first) & ((s.num_channels < 2) | second)
 }
 
@@ -78,51 +76,43 @@ fn byte_limit(s: StreamInfo, t: PackingSettings, n: usize) -> usize
     requires { Limited s n }
     ensures { result ≡ (bit_limit n (settings_used s t) + 7) / 8 }
 {
-    let first = t.first;
-    let second = t.second;
-    let one = channel_limit(first.order, n);
+    let one = channel_limit(t.first.order, n);
     if s.num_channels == 1 {
         return (one + 74 + 7) / 8;
     }
-    let two = channel_limit(second.order, n);
+    let two = channel_limit(t.second.order, n);
     (one + (two + 74) + 7) / 8
 }
 
 // ---- The writer: a passage into the one packet that the rules name for it.
 
 // The parameters of the channels that there are.
-fn put_all_params(bytes: &mut [u8], out: Sink, s: StreamInfo, t: PackingSettings) -> Sink
-    requires { Paramable s t out }
-    ensures { Sent bytes.old bytes.new out (joined (map param_bits (settings_used s t))) result }
+fn put_all_params(sink: &mut Sink, bytes: &mut [u8], s: StreamInfo, t: PackingSettings)
+    requires { Paramable s t sink.old }
+    ensures { Sent bytes.old bytes.new sink.old (joined (map param_bits (settings_used s t))) sink.new }
 {
-    let first = t.first;
-    let second = t.second;
-    let one = put_params(bytes, out, first);
-    if s.num_channels == 1 {
-        return one;
+    sink.put_params(bytes, t.first);
+    if s.num_channels == 2 {
+        sink.put_params(bytes, t.second);
     }
-    put_params(bytes, one, second)
 }
 
 // Their Rice data, one channel after the other.
 fn put_channels(
+    sink: &mut Sink,
     bytes: &mut [u8],
-    out: Sink,
     s: StreamInfo,
     t: PackingSettings,
     passage: &[i16],
     scratch: &mut [i32],
-) -> Sink
-    requires { Writing s t passage.now out scratch.old }
-    ensures { Wrote s t passage.now bytes.old bytes.new out scratch.old scratch.new result }
+)
+    requires { Writing s t passage.now sink.old scratch.old }
+    ensures { Wrote s t passage.now bytes.old bytes.new sink.old scratch.old scratch.new sink.new }
 {
-    let first = t.first;
-    let second = t.second;
-    let one = put_channel(bytes, out, s, t, first, 0, passage, scratch);
-    if s.num_channels == 1 {
-        return one;
+    put_channel(sink, bytes, s, t, t.first, 0, passage, scratch);
+    if s.num_channels == 2 {
+        put_channel(sink, bytes, s, t, t.second, 1, passage, scratch);
     }
-    put_channel(bytes, one, s, t, second, 1, passage, scratch)
 }
 
 // As many of the packet's bytes as there are places, and how many it has: in no places it is only measured.
@@ -137,24 +127,19 @@ fn emit(
     ensures { Emitted s t passage.now bytes.old bytes.new scratch.old scratch.new result }
 {
     let n = passage.len() / s.num_channels as usize;
-    let start = Sink {
-        at: 0,
-        pending: 0,
-        count: 0,
-    };
-    let head = put_head(
+    let mut sink = Sink::new();
+    sink.put_head(
         bytes,
-        start,
         s.num_channels as u32,
         n as u32,
         s.frame_length,
         t.mix_bits,
         t.mix_res,
     );
-    let params = put_all_params(bytes, head, s, t);
-    let codes = put_channels(bytes, params, s, t, passage, scratch);
-    let end = put_end(bytes, codes);
-    end.at
+    put_all_params(&mut sink, bytes, s, t);
+    put_channels(&mut sink, bytes, s, t, passage, scratch);
+    sink.put_end(bytes);
+    sink.at
 }
 
 // 21 leaves every byte as it was, so what may not fit is measured first.
@@ -164,19 +149,19 @@ fn pack(
     passage: &[i16],
     bytes: &mut [u8],
     scratch: &mut [i32],
-) -> Packed
+) -> Result<usize, Refusal>
     requires { Emitting s t passage.now scratch.old }
     ensures { Packing s t passage.now bytes.old bytes.new scratch.old scratch.new result }
 {
     let n = passage.len() / s.num_channels as usize;
     if byte_limit(s, t, n) <= bytes.len() {
-        return Packed::Accepted(emit(bytes, s, t, passage, scratch));
+        return Ok(emit(bytes, s, t, passage, scratch));
     }
     let length = emit(&mut bytes[..0], s, t, passage, scratch);
     if bytes.len() < length {
-        return Packed::Refused(Refusal::Bytes);
+        return Err(Refusal::Bytes);
     }
-    Packed::Accepted(emit(bytes, s, t, passage, scratch))
+    Ok(emit(bytes, s, t, passage, scratch))
 }
 
 pub fn encode_packet_i16(
@@ -185,24 +170,22 @@ pub fn encode_packet_i16(
     passage: &[i16],
     bytes: &mut [u8],
     scratch: &mut [i32],
-) -> Packed
+) -> Result<usize, Refusal>
     ensures { Promise s t passage.now bytes.old bytes.new scratch.old scratch.new result }
 {
+    if !accepts::<i32>(s) {
+        return Err(Refusal::Stream);
+    }
     let places = 2 * (s.frame_length as usize);
-    let taken = accepted(s, takes_i32(s.bit_depth));
-    let ranged = in_range(s, t);
-    if !taken {
-        return Packed::Refused(Refusal::Stream);
-    }
     if scratch.len() < places {
-        return Packed::Refused(Refusal::Room);
+        return Err(Refusal::Room);
     }
-    clear_i32(scratch, places);
-    if !ranged {
-        return Packed::Refused(Refusal::Settings);
+    clear(scratch, places);
+    if !in_range(s, t) {
+        return Err(Refusal::Settings);
     }
     if !passage_fits(s, passage.len()) {
-        return Packed::Refused(Refusal::Passage);
+        return Err(Refusal::Passage);
     }
     pack(s, t, passage, bytes, scratch)
 }

@@ -2,6 +2,7 @@
 use Prim.Native.Nat.{ℕ, suc, ◌+◌, ◌-◌, ◌*◌, ◌%◌, ◌^◌, ◌≤◌, ◌<◌}
 use mathlib.Core.Path.{◌≡◌, refl, sym, ap, ap₂, ◌∙◌}
 use mathlib.Core.List.{List, [], ◌∷◌, ◌++◌, map, append_assoc, append-nil}
+use native.Mathlib.Numerals.{add-one}
 use native.Mathlib.Omega.{arith}
 use lib.ListN.{length, take, drop, get_or, replicate, length-append}
 use lib.Seq.{drop-cons, drop-length, get_or-take, length-take-le}
@@ -69,54 +70,51 @@ coefs_next x p d = record {
   order_le = p.order_le;
 }
 
--- ---- the loop over the coefficients: `done` went out, and the rest is to follow
+-- ---- the loop over the coefficients: `done` went out, and those after the first i are to follow
 
-pub record Putting (coefs : List ℤ) (order : ℕ) (was is : List ℕ) (s out : Sink) (left : ℕ) : Type 0 where
+pub record Putting (coefs : List ℤ) (order : ℕ) (was is : List ℕ) (s out : Sink) (i : ℕ) : Type 0 where
   pub done : List ℕ
   pub sent : Sent was is s done out
-  pub size : length done ≡ 16 * (order - left)
-  pub rest : coef_bits (take order coefs) ≡ done ++ coef_bits (drop (order - left) (take order coefs))
-  pub left_le : left ≤ order
+  pub size : length done ≡ 16 * i
+  pub rest : coef_bits (take order coefs) ≡ done ++ coef_bits (drop i (take order coefs))
+  pub i_le : i ≤ order
   pub order_le : order ≤ length coefs
 
-pub putting_start : {coefs : List ℤ} {order : ℕ} {was : List ℕ} {s : Sink} → Ready s → order ≤ length coefs → Putting coefs order was was s s order
+pub putting_start : {coefs : List ℤ} {order : ℕ} {was : List ℕ} {s : Sink} → Ready s → order ≤ length coefs → Putting coefs order was was s s 0
 putting_start {order} {was} {s} q h =
-    let e : order - order ≡ 0 = omega arith in
-    record { done = []; sent = sent_none was s q; size = omega arith; rest = rw e; left_le = omega arith; order_le = h }
+    record { done = []; sent = sent_none was s q; size = refl; rest = refl; i_le = omega arith; order_le = h }
 
-module _ {coefs : List ℤ} {order : ℕ} {was is : List ℕ} {s out : Sink} {left : ℕ} (g : Putting coefs order was is s out left) where
+module _ {coefs : List ℤ} {order : ℕ} {was is : List ℕ} {s out : Sink} {i : ℕ} (g : Putting coefs order was is s out i) where
   pub putting_takes : Coefs s order → {v : ℕ} (z : ℤ) → v ≡ mod_z (2 ^ 16) z → Takes out v 16
   putting_takes p z e = record {
-    ready = sent_ready g.sent (omega (arith, g.size, p.ready.few, p.room, p.order_le));
+    ready = sent_ready g.sent (omega (arith, g.size, g.i_le, p.ready.few, p.room, p.order_le));
     len_le = omega arith;
     small = omega (arith, mod_z_lt (2 ^ 16) z (pow_pos 16));
   }
 
-  pub putting_next : 0 < left → {v : ℕ} → v ≡ mod_z (2 ^ 16) (get_or coefs (order - left) (pos 0)) → {now : List ℕ} {r : Sink} → Sent is now out (digits 16 v) r
-      → Putting coefs order was now s r (left - 1)
+  pub putting_next : i < order → {v : ℕ} → v ≡ mod_z (2 ^ 16) (get_or coefs i (pos 0)) → {now : List ℕ} {r : Sink} → Sent is now out (digits 16 v) r
+      → Putting coefs order was now s r (i + 1)
   unfolding joined
   putting_next l {v} e d =
-      let i : ℕ = order - left in
-      let n : order - (left - 1) ≡ suc i = omega (arith, g.left_le) in
       let xs : List ℤ = take order coefs in
       let tail : List ℕ = coef_bits (drop (suc i) xs) in
-      let here : i < length xs = omega (arith, length-take-le order coefs g.order_le, g.left_le) in
+      let here : i < length xs = omega (arith, length-take-le order coefs g.order_le) in
       let x : coef_bits (drop i xs) ≡ digits 16 v ++ tail =
-      rw (e, ← get_or-take order coefs i (pos 0) (omega (arith, g.left_le)), drop-cons xs i (pos 0) here) in
+      rw (e, ← get_or-take order coefs i (pos 0) l, drop-cons xs i (pos 0) here) in
       record {
         done = g.done ++ digits 16 v;
         sent = sent_sent g.done (digits 16 v) g.sent d;
-        size = omega (arith, length-append g.done (digits 16 v), length_digits 16 v, g.size, n);
-        rest = rw n (g.rest ∙ ap (λ (u : List ℕ). g.done ++ u) x ∙ sym (append_assoc g.done (digits 16 v) tail));
-        left_le = omega (arith, g.left_le);
+        size = omega (arith, length-append g.done (digits 16 v), length_digits 16 v, g.size);
+        rest = rw add-one (g.rest ∙ ap (λ (u : List ℕ). g.done ++ u) x ∙ sym (append_assoc g.done (digits 16 v) tail));
+        i_le = omega arith;
         order_le = g.order_le;
       }
 
-  pub putting_done : left ≤ 0 → Sent was is s (coef_bits (take order coefs)) out
+  pub putting_done : order ≤ i → Sent was is s (coef_bits (take order coefs)) out
   unfolding joined
   putting_done l =
-      let e : order - left ≡ length (take order coefs) = omega (arith, length-take-le order coefs g.order_le) in
-      let d : drop (order - left) (take order coefs) ≡ [] = rw e (drop-length (take order coefs)) in
+      let e : i ≡ length (take order coefs) = omega (arith, length-take-le order coefs g.order_le, g.i_le) in
+      let d : drop i (take order coefs) ≡ [] = rw e (drop-length (take order coefs)) in
       let w : coef_bits (take order coefs) ≡ g.done = g.rest ∙ rw d (append-nil g.done) in
       rw w g.sent
 

@@ -8,7 +8,7 @@ ghost use Rattle.laws.specs.Writer.{residuals_of};
 ghost use Rattle.enc_bits.specs.Sent.{Sent};
 ghost use Rattle.enc_channel.specs.Channel.{Residing, Written, lane_of, Fillable, ChannelAsked, ChannelSent};
 
-use buffers::clear_i32;
+use buffers::clear;
 use dec_rice::Coding;
 use enc_bits::Sink;
 use enc_rice::put_rice;
@@ -34,29 +34,28 @@ fn residuals_of(s: StreamInfo, c: ChannelSettings, bps: u32, n: usize, buf: &mut
     requires { Residing s c bps n buf.old }
     ensures { buf.new ≡ take n buf.old ++ (residuals_of bps c (take n buf.old)).values }
 {
-    let newest_first = c.coefs;
     let order = c.order as usize;
-    let mut coefs = oldest_first(newest_first, order);
+    let mut coefs = oldest_first(c.coefs, order);
     lpc_residuals(buf, n, bps, &mut coefs[..order], c.quant);
 }
 
 fn put_codes(
+    sink: &mut Sink,
     bytes: &mut [u8],
-    out: Sink,
     s: StreamInfo,
     c: ChannelSettings,
     bps: u32,
     residuals: &[i32],
-) -> Sink
-    requires { Written s c bps residuals.now out }
-    ensures { Sent bytes.old bytes.new out (rice_code (factor s c.pb_factor) s.kb bps residuals.now 0 s.mb 0).bits result }
+)
+    requires { Written s c bps residuals.now sink.old }
+    ensures { Sent bytes.old bytes.new sink.old (rice_code (factor s c.pb_factor) s.kb bps residuals.now 0 s.mb 0).bits sink.new }
 {
     let coding = Coding {
         kb: s.kb as u32,
         factor: s.pb as u32 * c.pb_factor / 4,
         bits: bps,
     };
-    put_rice(bytes, out, residuals, coding, s.mb)
+    put_rice(sink, bytes, residuals, coding, s.mb);
 }
 
 // The samples of channel `which`, and their residuals after them.
@@ -87,24 +86,22 @@ fn fill(
 
 // Scratch is used and cleared.
 pub fn put_channel(
+    sink: &mut Sink,
     bytes: &mut [u8],
-    out: Sink,
     s: StreamInfo,
     t: PackingSettings,
     c: ChannelSettings,
     which: usize,
     passage: &[i16],
     scratch: &mut [i32],
-) -> Sink
-    requires { ChannelAsked s t c which passage.now out scratch.old }
-    ensures { ChannelSent s t c which passage.now bytes.old bytes.new out scratch.old scratch.new result }
+)
+    requires { ChannelAsked s t c which passage.now sink.old scratch.old }
+    ensures { ChannelSent s t c which passage.now bytes.old bytes.new sink.old scratch.old scratch.new sink.new }
 {
     let n = passage.len() / s.num_channels as usize;
     let end = n + n;
     let bps = s.bit_depth as u32 + s.num_channels as u32 - 1;
-    let half = s.frame_length as usize;
     fill(passage, s, t, c, which, n, &mut scratch[..end]);
-    let done = put_codes(bytes, out, s, c, bps, &scratch[n..end]);
-    clear_i32(scratch, 2 * half);
-    done
+    put_codes(sink, bytes, s, c, bps, &scratch[n..end]);
+    clear(scratch, 2 * s.frame_length as usize);
 }

@@ -11,6 +11,7 @@ use lib.Seq.{drop-cons, drop-length, drop-drop}
 use lib.Dec.{ltb}
 use lib.IntN.{ℤ, pos, negsuc}
 use borrow.Author.Tests.{lt-ltb, le-ltb}
+use Rattle.std.specs.Prelude.{Option, None, Some}
 use Rattle.rules.specs.Bits.{digits}
 use Rattle.rules.specs.Words.{folded, is_zero}
 use Rattle.rules.specs.Rice.{symbol_k, symbol_m, run_k, run_m, history_after, run_follows}
@@ -25,7 +26,7 @@ use Rattle.enc_bits.proofs.Sent.{sent_none, sent_sent, sent_ready}
 use Rattle.enc_rice.specs.declared.Code.{Code}
 use Rattle.enc_rice.specs.declared.Step.{Step}
 use Rattle.enc_rice.specs.Turn.{turn_bits, turn_owed, turn_history, turn_plus, rice-turn}
-use Rattle.enc_rice.specs.Code.{code_bits, Codes, Sizes, Zeros, Turns, Turned, Puts, Writes}
+use Rattle.enc_rice.specs.Code.{code_bits, run_code, Codes, Sizes, Zeros, Turns, Turned, Puts, Writes}
 
 -- ---- zeros ahead
 
@@ -88,8 +89,8 @@ module _ {c : Coding} {es : List ℤ} {i h : ℕ} (q : Turns c es i h) (gain : �
       rw (← ev, ← en, l)
 
   pub turn_plain : run_follows n (length es - 1 - i) ≡ false
-      → Turned c es i h gain (record { symbol = symbol; run = record { bits = 0; len = 0 }; next = i + 1; history = n; plus = 0 })
-  unfolding turn_bits turn_owed turn_history turn_plus digits
+      → Turned c es i h gain (record { symbol = symbol; run = None; next = i + 1; history = n; plus = 0 })
+  unfolding turn_bits turn_owed turn_history turn_plus run_code
   turn_plain f =
       let r = follows_is ∙ f in
       record {
@@ -98,14 +99,14 @@ module _ {c : Coding} {es : List ℤ} {i h : ℕ} (q : Turns c es i h) (gain : �
         history = rw (r, ← ev) en;
         plus = rw r;
         symbol_fits = hs.fits;
-        run_fits = record { len_le = omega arith; small = omega arith };
+        run_fits = tt;
         next_le = omega (arith, q.here);
         history_lt = rw en (history_lt c.factor h v q.ranges.factor_le q.history_lt);
       }
 
   pub turn-run : run_follows n (length es - 1 - i) ≡ true → {z j : ℕ} {run : Code} → Zeros es (i + 1) z → j ≡ run_k n → Codes (symbol_bits j (symbol_m j) 16 z) run
-      → Turned c es i h gain (record { symbol = symbol; run = run; next = i + 1 + z; history = 0; plus = 1 })
-  unfolding turn_bits turn_owed turn_history turn_plus
+      → Turned c es i h gain (record { symbol = symbol; run = Some run; next = i + 1 + z; history = 0; plus = 1 })
+  unfolding turn_bits turn_owed turn_history turn_plus run_code
   turn-run f {run = run} hz ej hr =
       let r = follows_is ∙ f in
       let m : run_m c.kb (run_k n) ≡ symbol_m (run_k n) =
@@ -124,17 +125,25 @@ module _ {c : Coding} {es : List ℤ} {i h : ℕ} (q : Turns c es i h) (gain : �
 
 -- ---- both codes go out
 
-pub run_takes : {a b : List ℕ} {s r : Sink} {t : Step} → Puts s t → Sent a b s (code_bits t.symbol) r → Takes r t.run.bits t.run.len
-run_takes {t} p d = record {
-  ready = sent_ready d (omega (arith, length_digits t.symbol.len t.symbol.bits, p.symbol_fits.len_le, p.ready.few, p.room));
-  len_le = omega (arith, p.run_fits.len_le);
-  small = p.run_fits.small;
-}
+pub run_takes : {a b : List ℕ} {s r : Sink} {t : Step} {run : Code} → Puts s t → t.run ≡ Some run → Sent a b s (code_bits t.symbol) r → Takes r run.bits run.len
+run_takes {t} p e d =
+    let fits = rw e at p.run_fits in
+    record {
+      ready = sent_ready d (omega (arith, length_digits t.symbol.len t.symbol.bits, p.symbol_fits.len_le, p.ready.few, p.room));
+      len_le = omega (arith, fits.len_le);
+      small = fits.small;
+    }
 
 -- no run
-pub sent_alone : {a b : List ℕ} {s r : Sink} {v : List ℕ} (run : Code) → run.len ≡ 0 → Sent a b s v r → Sent a b s (v ++ code_bits run) r
-unfolding digits
-sent_alone run e d = rw (e, append-nil) d
+pub sent_alone : {a b : List ℕ} {s r : Sink} {v : List ℕ} {run : Option Code} → run ≡ None → Sent a b s v r → Sent a b s (v ++ run_code run) r
+unfolding run_code
+sent_alone e d = rw (e, append-nil) d
+
+-- a run after the symbol
+pub sent_both : {a b c : List ℕ} {s m r : Sink} {v : List ℕ} {run : Option Code} {code : Code} → run ≡ Some code → Sent a b s v m → Sent b c m (code_bits code) r
+    → Sent a c s (v ++ run_code run) r
+unfolding run_code
+sent_both {v} {code} e d f = rw e (sent_sent v (code_bits code) d f)
 
 -- ---- the loop over the residuals: `done` went out, and the rest follows from the state
 
@@ -170,11 +179,11 @@ module _ {c : Coding} {es : List ℤ} {mb : ℕ} {was is : List ℕ} {s out : Si
         run_fits = d.run_fits;
       }
 
-  pub going_next : i < length es → {t : Step} → Turned c es i h plus t → {now : List ℕ} {r : Sink} → Sent is now out (code_bits t.symbol ++ code_bits t.run) r
+  pub going_next : i < length es → {t : Step} → Turned c es i h plus t → {now : List ℕ} {r : Sink} → Sent is now out (code_bits t.symbol ++ run_code t.run) r
       → Going c es mb was now s r t.history t.plus t.next
   going_next l {t} d {now} {r} p =
       let e : ℤ = get_or es i (pos 0) in
-      let v : List ℕ = code_bits t.symbol ++ code_bits t.run in
+      let v : List ℕ = code_bits t.symbol ++ run_code t.run in
       let tail : List ℕ = rice_bits c (drop t.next es) t.history t.plus in
       let x : rice_bits c (drop i es) h plus ≡ v ++ tail =
       rw (d.bits, d.next, d.history, d.plus, drop-cons es i (pos 0) l, ← add-one i, ← drop-drop (turn_owed c.factor e (drop (i + 1) es) h) (i + 1) es)

@@ -1,5 +1,5 @@
 -- What the code's values stand for, and what its functions require and promise.
-use Rattle.std.specs.Prelude.{ℕ, ◌+◌, ◌-◌, ◌^◌, ◌≤◌, ◌<◌, ◌≡◌, List, ◌++◌, length, drop, get_or, ℤ, pos}
+use Rattle.std.specs.Prelude.{ℕ, ◌+◌, ◌-◌, ◌^◌, ◌≤◌, ◌<◌, ◌≡◌, List, [], ◌++◌, length, drop, get_or, ℤ, pos, Option, None, Some, IfSome}
 use Rattle.rules.specs.Bits.{digits}
 use Rattle.rules.specs.Writer.{zeros}
 use Rattle.dec_rice.specs.declared.Coding.{Coding}
@@ -11,6 +11,11 @@ use Rattle.enc_rice.specs.Turn.{turn_bits, turn_owed, turn_history, turn_plus}
 
 abbrev pub code_bits : Code → List ℕ
 code_bits c = digits c.len c.bits
+
+-- of a run, if there is one
+unfoldable pub run_code : Option Code → List ℕ
+run_code None = []
+run_code (Some c) = code_bits c
 
 -- a sink takes it at once
 pub record Fits (c : Code) : Type 0 where
@@ -59,12 +64,12 @@ pub record Turns (c : Coding) (es : List ℤ) (i h : ℕ) : Type 0 where
 
 -- the codes of sample i and of the run after it, and what the next turn starts from, by the rules
 pub record Turned (c : Coding) (es : List ℤ) (i h gain : ℕ) (t : Step) : Type 0 where
-  pub bits : code_bits t.symbol ++ code_bits t.run ≡ turn_bits c.factor c.kb c.bits (get_or es i (pos 0)) (drop (i + 1) es) h gain
+  pub bits : code_bits t.symbol ++ run_code t.run ≡ turn_bits c.factor c.kb c.bits (get_or es i (pos 0)) (drop (i + 1) es) h gain
   pub next : t.next ≡ i + 1 + turn_owed c.factor (get_or es i (pos 0)) (drop (i + 1) es) h
   pub history : t.history ≡ turn_history c.factor (get_or es i (pos 0)) (drop (i + 1) es) h
   pub plus : t.plus ≡ turn_plus c.factor (get_or es i (pos 0)) (drop (i + 1) es) h
   pub symbol_fits : Fits t.symbol
-  pub run_fits : Fits t.run
+  pub run_fits : IfSome t.run Fits
   pub next_le : t.next ≤ length es
   pub history_lt : t.history < 2 ^ 25
 
@@ -73,7 +78,7 @@ pub record Puts (s : Sink) (t : Step) : Type 0 where
   pub ready : Ready s
   pub room : s.at < 2 ^ 50
   pub symbol_fits : Fits t.symbol
-  pub run_fits : Fits t.run
+  pub run_fits : IfSome t.run Fits
 
 -- the residuals es can be written into the sink s
 pub record Writes (c : Coding) (es : List ℤ) (s : Sink) : Type 0 where

@@ -1,14 +1,14 @@
 // The codes of Rice data, turn after turn, out into lent bytes.
 #![tactic(auto)]
 
-ghost use Rattle.std.specs.Prelude.{◌≡◌, ◌∷◌, ◌++◌, ◌-◌, ◌≤◌, length, replicate};
+ghost use Rattle.std.specs.Prelude.{◌≡◌, ◌∷◌, ◌++◌, ◌≤◌, length, replicate};
 ghost use Rattle.rules.specs.Rice.{symbol_m};
 ghost use Rattle.rules.specs.Writer.{rest_bits, symbol_bits, rice_code};
 ghost use Rattle.enc_bits.specs.Sent.{Sent};
-ghost use Rattle.enc_rice.specs.Code.{Codes, Parts, Sizes, Zeros, Turns, Turned, Puts, Writes, code_bits};
+ghost use Rattle.enc_rice.specs.Code.{Codes, Parts, Sizes, Zeros, Turns, Turned, Puts, Writes, code_bits, run_code};
 
 use dec_rice::{Coding, next_history, run_k, symbol_k, symbol_m};
-use enc_bits::{Sink, pow2, put};
+use enc_bits::{Sink, pow2};
 use words::fold;
 
 // The last `len` bits of `bits`.
@@ -18,24 +18,14 @@ struct Code {
     len: u32,
 }
 
-// The codes of a sample and of the run after it, and what the next turn starts from: the sample, the history and the +1.
+// The codes of a sample and of the run after it, if there is one, and what the next turn starts from: the sample, the history and the +1.
 #[derive(Clone, Copy)]
 struct Step {
     symbol: Code,
-    run: Code,
+    run: Option<Code>,
     next: usize,
     history: u32,
     plus: u32,
-}
-
-// 0 where y is more than x.
-fn less(x: u32, y: u32) -> u32
-    ensures { result ≡ x - y }
-{
-    if x < y {
-        return 0;
-    }
-    x - y
 }
 
 // q ones, a zero and r: as r + 1 in k bits, but r = 0 goes without the last bit. With k = 1 it is 0.
@@ -78,14 +68,12 @@ fn zeros_from(residuals: &[i32], from: usize) -> usize
     requires { from ≤ length residuals.now }
     ensures { Zeros residuals.now from result }
 {
-    let mut j = from;
-    while j < residuals.len() {
+    for j in from..residuals.len() {
         if residuals[j] != 0 {
             return j - from;
         }
-        j += 1;
     }
-    j - from
+    residuals.len() - from
 }
 
 // The sample at `i`, and the run after it if there is one: the zeros that it tells of are passed over.
@@ -95,61 +83,52 @@ fn turn(residuals: &[i32], i: usize, c: Coding, h: u32, plus: u32) -> Step
 {
     let v = fold(residuals[i]);
     let k = symbol_k(c.kb, h);
-    let symbol = symbol_code(less(v, plus), k, c.bits);
+    let symbol = symbol_code(v.saturating_sub(plus), k, c.bits);
     let next = next_history(c.factor, h, v);
     let left = residuals.len() - 1 - i;
     if left > 0 && next < 128 {
         let z = zeros_from(residuals, i + 1);
-        let k_run = run_k(next);
-        let run = symbol_code(z as u32, k_run, 16);
+        let run = symbol_code(z as u32, run_k(next), 16);
         return Step {
-            symbol: symbol,
-            run: run,
+            symbol,
+            run: Some(run),
             next: i + 1 + z,
             history: 0,
             plus: 1,
         };
     }
     Step {
-        symbol: symbol,
-        run: Code { bits: 0, len: 0 },
+        symbol,
+        run: None,
         next: i + 1,
         history: next,
         plus: 0,
     }
 }
 
-fn put_turn(bytes: &mut [u8], s: Sink, t: Step) -> Sink
-    requires { Puts s t }
-    ensures { Sent bytes.old bytes.new s (code_bits t.symbol ++ code_bits t.run) result }
+fn put_turn(sink: &mut Sink, bytes: &mut [u8], t: Step)
+    requires { Puts sink.old t }
+    ensures { Sent bytes.old bytes.new sink.old (code_bits t.symbol ++ run_code t.run) sink.new }
 {
-    let a = t.symbol;
-    let half = put(bytes, s, a.bits, a.len);
-    let b = t.run;
-    if b.len == 0 {
-        return half;
+    sink.put(bytes, t.symbol.bits, t.symbol.len);
+    if let Some(run) = t.run {
+        sink.put(bytes, run.bits, run.len);
     }
-    put(bytes, half, b.bits, b.len)
 }
 
-// The Rice data of a channel.
-pub fn put_rice(bytes: &mut [u8], s: Sink, residuals: &[i32], c: Coding, mb: u8) -> Sink
-    requires { Writes c residuals.now s }
-    ensures { Sent bytes.old bytes.new s (rice_code c.factor c.kb c.bits residuals.now 0 mb 0).bits result }
+// The Rice data of a channel. No range counts the turns, since each passes over the zeros of its run.
+pub fn put_rice(sink: &mut Sink, bytes: &mut [u8], residuals: &[i32], c: Coding, mb: u8)
+    requires { Writes c residuals.now sink.old }
+    ensures { Sent bytes.old bytes.new sink.old (rice_code c.factor c.kb c.bits residuals.now 0 mb 0).bits sink.new }
 {
-    let mut out = s;
     let mut history = mb as u32;
     let mut plus: u32 = 0;
     let mut i: usize = 0;
     while i < residuals.len() {
         let t = turn(residuals, i, c, history, plus);
-        let r = put_turn(bytes, out, t);
-        out.at = r.at;
-        out.pending = r.pending;
-        out.count = r.count;
+        put_turn(sink, bytes, t);
         history = t.history;
         plus = t.plus;
         i = t.next;
     }
-    out
 }

@@ -1,13 +1,12 @@
 -- Document 01, "Readings taken at the bench": the bold cases, worked out from the rules, as one table under one claim.
-use Rattle.std.specs.Prelude.{◌≡◌, refl, List, [], ◌∷◌, ◌++◌, map, reverse, ℕ, length, replicate, ℤ, pos, negsuc}
+use Rattle.std.specs.Prelude.{◌≡◌, refl, List, [], ◌∷◌, ◌++◌, map, reverse, ℕ, length, replicate, ℤ, pos, negsuc, Result, Ok, Err}
 use Rattle.std.specs.Int.Count.{count_leading_zeros}
 use Rattle.rules.specs.declared.StreamInfo.{StreamInfo}
 use Rattle.rules.specs.declared.ChannelSettings.{ChannelSettings}
 use Rattle.rules.specs.declared.PackingSettings.{PackingSettings}
-use Rattle.rules.specs.declared.Answer.{Answer}
-use Rattle.rules.specs.declared.Answer.TheVariants.{Accepted, Refused}
-use Rattle.rules.specs.declared.Packed.{Packed}
-use Rattle.rules.specs.declared.Packed.TheVariants as packing
+use Rattle.rules.specs.declared.Decoded.{Decoded}
+use Rattle.rules.specs.declared.Refused.{Refused}
+use Rattle.rules.specs.declared.Refusal.{Refusal}
 use Rattle.rules.specs.declared.Refusal.TheVariants.{Run}
 use Rattle.rules.specs.Answers.{got, bad, pick, bind, times, each}
 use Rattle.rules.specs.Bits.{digits, num, bits_of, bytes_of, padded, within, place_of}
@@ -50,23 +49,23 @@ packet_of : List ℕ → List ℕ
 packet_of last = 0 ∷ 0 ∷ 0 ∷ 0 ∷ 0 ∷ 0x13 ∷ 0x01 ∷ last
 
 -- the reader's answer and its output of two places
-heard : List ℕ → Answer × List ℤ
+heard : List ℕ → Result Decoded Refused × List ℤ
 heard bytes =
     (answer_of stream (decoded i16_output stream bytes 2 4), output_after i16_output stream (pos 7 ∷ pos 7 ∷ []) (replicate 4 (pos 7)) bytes)
 
 -- the writer's answer and its nine lent bytes
-told : List ℤ → Packed × List ℕ
+told : List ℤ → Result ℕ Refusal × List ℕ
 told passage = (packed stream settings passage 9 4, bytes_after stream settings passage (replicate 9 0xAA) 4)
 
 bench : (map run_k (0 ∷ 1 ∷ 31 ∷ 32 ∷ 47 ∷ 48 ∷ 111 ∷ 112 ∷ 127 ∷ []) ≡ 8 ∷ 7 ∷ 3 ∷ 2 ∷ 2 ∷ 3 ∷ 2 ∷ 3 ∷ 3 ∷ [])
     × (map (symbol_k 31) (511 ∷ 512 ∷ 2560 ∷ []) ≡ 1 ∷ 2 ∷ 3 ∷ [])
     × (mixed 2 (pos 1) ((pos 5 ∷ negsuc 1 ∷ []) ∷ (negsuc 1 ∷ pos 5 ∷ []) ∷ []) ≡ (negsuc 0 ∷ pos 3 ∷ []) ∷ (pos 7 ∷ negsuc 6 ∷ []) ∷ [])
-    × (heard (0 ∷ 0 ∷ 2 ∷ 0 ∷ 3 ∷ 0xFF ∷ 0xFF ∷ 0xC0 ∷ []) ≡ (Accepted 2 (place_of 64), pos 1 ∷ negsuc 0 ∷ []))
-    × (heard (packet_of (0x97 ∷ [])) ≡ (Accepted 2 (place_of 64), pos 1 ∷ pos 1 ∷ []))
-    × (heard (packet_of (0x8B ∷ 0x80 ∷ [])) ≡ (Accepted 2 (place_of 72), pos 1 ∷ pos 2 ∷ []))
-    × (heard (packet_of (0x9F ∷ [])) ≡ (Refused Run (place_of 61), pos 0 ∷ pos 0 ∷ []))
-    × (told (pos 1 ∷ pos 1 ∷ []) ≡ (packing.Accepted 8, packet_of (0x97 ∷ 0xAA ∷ [])))
-    × (told (pos 1 ∷ pos 2 ∷ []) ≡ (packing.Accepted 9, packet_of (0x8B ∷ 0x80 ∷ [])))
+    × (heard (0 ∷ 0 ∷ 2 ∷ 0 ∷ 3 ∷ 0xFF ∷ 0xFF ∷ 0xC0 ∷ []) ≡ (Ok (record { count = 2; at = place_of 64 }), pos 1 ∷ negsuc 0 ∷ []))
+    × (heard (packet_of (0x97 ∷ [])) ≡ (Ok (record { count = 2; at = place_of 64 }), pos 1 ∷ pos 1 ∷ []))
+    × (heard (packet_of (0x8B ∷ 0x80 ∷ [])) ≡ (Ok (record { count = 2; at = place_of 72 }), pos 1 ∷ pos 2 ∷ []))
+    × (heard (packet_of (0x9F ∷ [])) ≡ (Err (record { refusal = Run; at = place_of 61 }), pos 0 ∷ pos 0 ∷ []))
+    × (told (pos 1 ∷ pos 1 ∷ []) ≡ (Ok 8, packet_of (0x97 ∷ 0xAA ∷ [])))
+    × (told (pos 1 ∷ pos 2 ∷ []) ≡ (Ok 9, packet_of (0x8B ∷ 0x80 ∷ [])))
 unfolding stream settings packet_of heard told
     run_k symbol_k log2 count_leading_zeros mixed on_pair pairs mid_of share wrap signed mod_z
     decoded accepted roomy answer_of output_after written laid interleaved heads tails every up_to

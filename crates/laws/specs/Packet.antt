@@ -3,14 +3,12 @@ use Prim.Native.Nat.{ℕ, zero, suc, ◌+◌, ◌-◌, ◌*◌, ◌/◌, ◌%◌
 use Rattle.std.proofs.Math.Path.{◌≡◌, refl, sym, ap}
 use Rattle.std.proofs.Common.{ap₂, ◌∙◌, mul-suc, leb-true, le-leb, length-append, take-take}
 use Rattle.std.proofs.Math.Bool.{Bool, true, false}
-use Rattle.std.specs.Prelude.{List, [], ◌∷◌, ◌++◌, take, drop}
+use Rattle.std.specs.Prelude.{List, [], ◌∷◌, ◌++◌, take, drop, Option, None}
 use native.Mathlib.Omega.{arith}
 use Rattle.std.proofs.Math.Dec.{leb}
 use Rattle.std.proofs.Math.ListN.{length}
 use Rattle.std.proofs.Math.Seq.{take-append_seam}
 use Rattle.rules.specs.declared.StreamInfo.{StreamInfo}
-use Rattle.rules.specs.declared.Samples.{Samples}
-use Rattle.rules.specs.declared.Samples.TheVariants.{Open, Known}
 use Rattle.rules.specs.declared.Refusal.{Refusal}
 use Rattle.rules.specs.declared.Refusal.TheVariants.{Short}
 use Rattle.rules.specs.Answers.{Ans, got, bad, pick, bind, Read, ◌>>=◌}
@@ -101,15 +99,15 @@ module _ (bits bits' : List ℕ) (edge : ℕ) (alike : take edge bits ≡ take e
   }
 
   -- the whole reader, however many turns
-  settled : (most so_far : ℕ) (m : Samples) → Goes Sound (run bits s most so_far m) (run bits' s most so_far m)
+  settled : (most so_far : ℕ) (m : Option ℕ) → Goes Sound (run bits s most so_far m) (run bits' s most so_far m)
   settled = turns_kept bits bits' s Goes goes
 
 module _ (bits : List ℕ) (s : StreamInfo) where
-  tagged_goes : (so_far : ℕ) (m : Samples) (tag : ℕ) → Goes bits bits 0 refl (omega arith) s Turn (tagged bits s so_far m tag) (tagged bits s so_far m tag)
+  tagged_goes : (so_far : ℕ) (m : Option ℕ) (tag : ℕ) → Goes bits bits 0 refl (omega arith) s Turn (tagged bits s so_far m tag) (tagged bits s so_far m tag)
   tagged_goes = tagged-kept bits bits s (Goes bits bits 0 refl (omega arith) s) (goes bits bits 0 refl (omega arith) s)
 
   -- an element takes 3 bits at least, and ends in the packet
-  pub turn_grows : (so_far : ℕ) (m : Samples) (p : ℕ) {t : Turn} {q : ℕ} → turn bits s so_far m p ≡ got t q → (p + 3 ≤ q) × (q ≤ length bits)
+  pub turn_grows : (so_far : ℕ) (m : Option ℕ) (p : ℕ) {t : Turn} {q : ℕ} → turn bits s so_far m p ≡ got t q → (p + 3 ≤ q) × (q ≤ length bits)
   unfolding turn bind within Grows
   turn_grows so_far m p {t} {q} e = go (leb (p + 3) (length bits)) refl e
     where
@@ -120,10 +118,10 @@ module _ (bits : List ℕ) (s : StreamInfo) where
 
   -- past the packet's last element no turn is left over
   abbrev Same : ℕ → ℕ → Type 0
-  Same f g = (so_far : ℕ) (m : Samples) (p : ℕ) → p ≤ length bits → length bits < p + 3 * f → length bits < p + 3 * g
+  Same f g = (so_far : ℕ) (m : Option ℕ) (p : ℕ) → p ≤ length bits → length bits < p + 3 * f → length bits < p + 3 * g
       → run bits s f so_far m p ≡ run bits s g so_far m p
 
-  same-onward : (f g so_far : ℕ) (m : Samples) (p : ℕ) → Same f g → length bits < p + 3 * suc f → length bits < p + 3 * suc g → (a : Ans Turn)
+  same-onward : (f g so_far : ℕ) (m : Option ℕ) (p : ℕ) → Same f g → length bits < p + 3 * suc f → length bits < p + 3 * suc g → (a : Ans Turn)
       → ((t : Turn) (q : ℕ) → a ≡ got t q → (p + 3 ≤ q) × (q ≤ length bits))
       → bind a (onward so_far m (run bits s f)) ≡ bind a (onward so_far m (run bits s g))
   unfolding bind onward
@@ -140,15 +138,15 @@ module _ (bits : List ℕ) (s : StreamInfo) where
       same-onward f g so_far m p (same_turns f g) h k (turn bits s so_far m p) (λ t q e. turn_grows so_far m p e)
 
   -- more turns than the rules allow come to the same
-  pub enough_turns : (most : ℕ) → length bits / 3 < most → run bits s most 0 Open 0 ≡ packet bits s
+  pub enough_turns : (most : ℕ) → length bits / 3 < most → run bits s most 0 None 0 ≡ packet bits s
   unfolding packet
-  enough_turns most h = same_turns most (length bits / 3 + 1) 0 Open 0 (omega arith) (omega arith) (omega arith)
+  enough_turns most h = same_turns most (length bits / 3 + 1) 0 None 0 (omega arith) (omega arith) (omega arith)
 
 -- what lies behind a decided answer's place, and how much of it there is, has no say: so nothing after END's byte has
 pub later_bits : (w x y : List ℕ) (s : StreamInfo) → Decided (length w) (packet (w ++ x) s) → packet (w ++ y) s ≡ packet (w ++ x) s
 later_bits w x y s d =
     let most : ℕ = (length (w ++ x) + length (w ++ y)) / 3 + 1 in
-    let one : run (w ++ x) s most 0 Open 0 ≡ packet (w ++ x) s = enough_turns (w ++ x) s most (omega arith) in
-    let two : run (w ++ y) s most 0 Open 0 ≡ packet (w ++ y) s = enough_turns (w ++ y) s most (omega arith) in
-    let same = ((settled (w ++ x) (w ++ y) (length w) (take-append_seam w x ∙ sym (take-append_seam w y)) (omega (arith, length-append w y)) s most 0 Open).from 0 (omega arith)).1 in
+    let one : run (w ++ x) s most 0 None 0 ≡ packet (w ++ x) s = enough_turns (w ++ x) s most (omega arith) in
+    let two : run (w ++ y) s most 0 None 0 ≡ packet (w ++ y) s = enough_turns (w ++ y) s most (omega arith) in
+    let same = ((settled (w ++ x) (w ++ y) (length w) (take-append_seam w x ∙ sym (take-append_seam w y)) (omega (arith, length-append w y)) s most 0 None).from 0 (omega arith)).1 in
     sym two ∙ same (rw one d) ∙ one

@@ -1,6 +1,6 @@
 -- The reader: an accepted packet has as many channels as the stream, each of its sample number, and they lie in the output sample by sample.
 use Prim.Native.Nat.{ℕ, zero, suc, ◌+◌, ◌*◌, ◌/◌, ◌≤◌}
-use Rattle.std.specs.Prelude.{◌≡◌, refl, Bool, true, false, leb, eqb, take, drop, replicate, ℤ}
+use Rattle.std.specs.Prelude.{◌≡◌, refl, Bool, true, false, leb, eqb, take, drop, replicate, ℤ, Option, None, Some}
 use Rattle.std.proofs.Math.Path.{sym, ap}
 use Rattle.std.proofs.Common.{◌∙◌, zero-mul, suc-mul, mul-le-mul_right, arith, take_at, drop_at}
 use mathlib.Core.List.{List, [], ◌∷◌, ◌++◌, map, append_assoc}
@@ -8,8 +8,6 @@ use borrow.Author.Tests.{leb-true, eqb-true, eq-eqb}
 use Rattle.std.proofs.Math.ListN.{length, length-append}
 use Rattle.std.proofs.lemmas.List.{length-map, length-replicate}
 use Rattle.rules.specs.declared.StreamInfo.{StreamInfo}
-use Rattle.rules.specs.declared.Samples.{Samples}
-use Rattle.rules.specs.declared.Samples.TheVariants.{Open, Known}
 use Rattle.rules.specs.declared.Refusal.{Refusal}
 use Rattle.rules.specs.declared.Refusal.TheVariants as refusal
 use Rattle.rules.specs.Answers.{Ans, got, pick, Read, check, refuse}
@@ -47,38 +45,38 @@ all_map : {A : Type 0} {P Q : A → Type 0} {a : Ans A} → ((x : A) → P x →
 all_map f (of_got {a = x} h) = of_got (f x h)
 all_map f of_bad = of_bad
 
-agrees_self : (m : Samples) → agrees m (number_known m) ≡ true
+agrees_self : (m : Option ℕ) → agrees m (number_known m) ≡ true
 unfolding agrees
-agrees_self Open = refl
-agrees_self (Known k) = eq-eqb k k refl
+agrees_self None = refl
+agrees_self (Some k) = eq-eqb k k refl
 
 module _ (s : StreamInfo) where
   -- an element's sound, after so many channels and with that sample number
-  pub record Joins (so_far : ℕ) (m : Samples) (sound : Sound) : Type 0 where
+  pub record Joins (so_far : ℕ) (m : Option ℕ) (sound : Sound) : Type 0 where
     pub samples_le : sound.samples ≤ s.frame_length
     pub long : Long sound.samples sound.chans
     pub two : length sound.chans ≤ 2
     pub channels_le : so_far + length sound.chans ≤ s.num_channels
     pub agree : agrees m sound.samples ≡ true
 
-  unfoldable pub Fits : ℕ → Samples → Turn → Type 0
+  unfoldable pub Fits : ℕ → Option ℕ → Turn → Type 0
   Fits so_far m (audio sound) = Joins so_far m sound
   Fits so_far m passed = Unit {0}
   Fits so_far m (end n) = (s.num_channels ≤ so_far) × (n ≡ number_known m)
 
   -- the sound that is still to come
-  record Rest (so_far : ℕ) (m : Samples) (sound : Sound) : Type 0 where
+  record Rest (so_far : ℕ) (m : Option ℕ) (sound : Sound) : Type 0 where
     pub samples_le : sound.samples ≤ s.frame_length
     pub long : Long sound.samples sound.chans
     pub width : so_far + length sound.chans ≡ s.num_channels
     pub agree : agrees m sound.samples ≡ true
 
-  onward_fits : (so_far : ℕ) (m : Samples) (go : ℕ → Samples → Read Sound) → so_far ≤ s.num_channels → number_known m ≤ s.frame_length
-      → ((c : ℕ) (l : Samples) (p : ℕ) → c ≤ s.num_channels → number_known l ≤ s.frame_length → All (Rest c l) (go c l p))
+  onward_fits : (so_far : ℕ) (m : Option ℕ) (go : ℕ → Option ℕ → Read Sound) → so_far ≤ s.num_channels → number_known m ≤ s.frame_length
+      → ((c : ℕ) (l : Option ℕ) (p : ℕ) → c ≤ s.num_channels → number_known l ≤ s.frame_length → All (Rest c l) (go c l p))
       → (t : Turn) → Fits so_far m t → (p : ℕ) → All (Rest so_far m) (onward so_far m go t p)
   unfolding Fits onward followed agrees
   onward_fits so_far m go h l f (audio sound) k p =
-      all-bind (λ rest q. got (followed sound rest) q) (f (so_far + length sound.chans) (Known sound.samples) p k.channels_le k.samples_le) (λ rest g q.
+      all-bind (λ rest q. got (followed sound rest) q) (f (so_far + length sound.chans) (Some sound.samples) p k.channels_le k.samples_le) (λ rest g q.
       let e : sound.samples ≡ rest.samples = eqb-true _ _ g.agree in
       of_got (record {
         samples_le = g.samples_le;
@@ -91,7 +89,7 @@ module _ (s : StreamInfo) where
       of_got {a = record { samples = n; chans = []; tracks = [] }} (record { samples_le = rw k.1 l; long = none; width = omega arith; agree = rw k.1 (agrees_self m) })
 
 module _ (bits : List ℕ) (s : StreamInfo) where
-  module _ (so_far : ℕ) (m : Samples) where
+  module _ (so_far : ℕ) (m : Option ℕ) where
     sound_fits : (w : ℕ) → 1 ≤ w → w ≤ 2 → (p : ℕ) → All (Fits s so_far m) (sound_element bits s so_far m w p)
     unfolding sound_element Fits
     sound_fits w lo hi p =
@@ -148,7 +146,7 @@ module _ (bits : List ℕ) (s : StreamInfo) where
     unfolding turn
     turn_fits p = all-bind _ (all_any (field bits 3 p)) (λ tag u q. tagged_fits tag q)
 
-  run_fits : (most so_far : ℕ) (m : Samples) (p : ℕ) → so_far ≤ s.num_channels → number_known m ≤ s.frame_length → All (Rest s so_far m) (run bits s most so_far m p)
+  run_fits : (most so_far : ℕ) (m : Option ℕ) (p : ℕ) → so_far ≤ s.num_channels → number_known m ≤ s.frame_length → All (Rest s so_far m) (run bits s most so_far m p)
   unfolding run
   run_fits zero so_far m p h l = of_bad
   run_fits (suc most) so_far m p h l = all-bind _ (turn_fits so_far m p) (onward_fits s so_far m (run bits s most) h l (run_fits most))
@@ -157,7 +155,7 @@ module _ (bits : List ℕ) (s : StreamInfo) where
   unfolding packet
   packet_shaped =
       all_map (λ sound r. record { samples_le = r.samples_le; formed = record { count = omega (arith, r.width); long = r.long } })
-      (run_fits (length bits / 3 + 1) 0 Open 0 (omega arith) (omega arith))
+      (run_fits (length bits / 3 + 1) 0 None 0 (omega arith) (omega arith))
 
 -- ---- an accepted packet in the output
 
@@ -167,7 +165,7 @@ interleaved-length zero chans a = sym (zero-mul (length chans))
 interleaved-length (suc n) chans a =
     rw (length-append, heads-length n chans a, interleaved-length n (tails chans) (tails-every n chans a), tails-length, suc-mul) (omega arith)
 
-map_formed : (f : ℤ → ℤ) {w n : ℕ} (chans : List (List ℤ)) → Formed w n chans → Formed w n (map (map f) chans)
+map_formed : {A : Type 0} (f : ℤ → A) {w n : ℕ} (chans : List (List ℤ)) → Formed w n chans → Formed w n (map (map f) chans)
 map_formed f chans h = record { count = length-map chans (map f) ∙ h.count; long = all h.long }
   where
     all : {n : ℕ} {ls : List (List ℤ)} → Long n ls → Long n (map (map f) ls)
@@ -175,10 +173,10 @@ map_formed f chans h = record { count = length-map chans (map f) ∙ h.count; lo
     all (one {x = l} a as') = one (length-map l f ∙ a) (all as')
 
 -- what a kind of output keeps of the channels
-abbrev pub kept : Width → StreamInfo → Sound → List (List ℤ)
+abbrev pub kept : {A : Type 0} → Width A → StreamInfo → Sound → List (List A)
 kept w s sound = map (map (w.keep s.bit_depth)) sound.chans
 
-module _ (w : Width) (s : StreamInfo) {sound : Sound} (h : Shaped s.frame_length s.num_channels sound) (out : List ℤ) (r : output_places s ≤ length out) where
+module _ {A : Type 0} (w : Width A) (s : StreamInfo) {sound : Sound} (h : Shaped s.frame_length s.num_channels sound) (out : List A) (r : output_places s ≤ length out) where
   kept_formed : Formed s.num_channels sound.samples (kept w s sound)
   kept_formed = map_formed (w.keep s.bit_depth) sound.chans h.formed
 

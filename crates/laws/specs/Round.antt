@@ -1,6 +1,6 @@
 -- The packet that the writing rules name is read back by the reading rules: every sample, every history and all coefficients.
 use Prim.Native.Nat.{ℕ, zero, suc, ◌+◌, ◌-◌, ◌*◌, ◌/◌, ◌^◌, ◌≤◌, ◌<◌}
-use Rattle.std.specs.Prelude.{◌≡◌, Bool, ◌||◌, leb, eqb, drop, replicate, pos}
+use Rattle.std.specs.Prelude.{◌≡◌, Bool, ◌||◌, leb, eqb, drop, replicate, pos, Option, None, Some}
 use Rattle.std.proofs.Math.Path.{refl, sym, ap, ap₂}
 use Rattle.std.proofs.Common.{◌∙◌, zero-mul, add-zero, arith, lit<}
 use Rattle.std.proofs.Math.Bool.{true, false}
@@ -13,8 +13,6 @@ use Rattle.std.proofs.Math.IntN.{ℤ}
 use Rattle.rules.specs.declared.StreamInfo.{StreamInfo}
 use Rattle.rules.specs.declared.ChannelSettings.{ChannelSettings}
 use Rattle.rules.specs.declared.PackingSettings.{PackingSettings}
-use Rattle.rules.specs.declared.Samples.{Samples}
-use Rattle.rules.specs.declared.Samples.TheVariants.{Open, Known}
 use Rattle.rules.specs.Answers.{got, pick, bind, Read, times, each}
 use Rattle.rules.specs.Bits.{digits, bits_of, within, field, skip_to_byte, to_edge}
 use Rattle.rules.specs.Words.{mod_z, signed, is_zero}
@@ -281,7 +279,7 @@ module _ (s : StreamInfo) (t : PackingSettings) (passage : List ℤ) where
 
 module _ (bits : List ℕ) (s : StreamInfo) where
   -- tag 0 for one channel, 1 for two
-  tag_at : (so_far : ℕ) (m : Samples) (channels p : ℕ) → 1 ≤ channels → channels ≤ 2
+  tag_at : (so_far : ℕ) (m : Option ℕ) (channels p : ℕ) → 1 ≤ channels → channels ≤ 2
       → tagged bits s so_far m (channels - 1) p ≡ sound_element bits s so_far m channels p
   unfolding tagged
   tag_at so_far m zero p l h = absurd (omega arith)
@@ -295,7 +293,7 @@ module _ (bits : List ℕ) (s : StreamInfo) where
 
   -- END goes to the byte edge
   end_at : {p : ℕ} (so_far n most : ℕ) → s.num_channels ≤ so_far → At bits p (digits 3 7) → p + 3 + to_edge (p + 3) ≤ length bits
-      → run bits s (suc most) so_far (Known n) p ≡ got (record { samples = n; chans = []; tracks = [] }) (p + 3 + to_edge (p + 3))
+      → run bits s (suc most) so_far (Some n) p ≡ got (record { samples = n; chans = []; tracks = [] }) (p + 3 + to_edge (p + 3))
   unfolding run turn tagged end_element onward bind
   end_at {p} so_far n most l at fit =
       rw (field-digits {p = p} 3 7 (lit< tt) at, edge_at (p + 3) fit, le-leb s.num_channels so_far l)
@@ -307,18 +305,18 @@ module _ (s : StreamInfo) (t : PackingSettings) (passage : List ℤ) (facts : To
   abbrev first : List ℕ
   first = element s t passage
 
-  turn_at : {bits : List ℕ} {p : ℕ} → At bits p first → turn bits s 0 Open p ≡ got (audio sound) (p + length first)
+  turn_at : {bits : List ℕ} {p : ℕ} → At bits p first → turn bits s 0 None p ≡ got (audio sound) (p + length first)
   unfolding turn sound_element agrees bind
   turn_at {bits} {p} at =
       let c : ℕ = s.num_channels in
       let tag = next_field 3 (c - 1) _ (omega (arith, facts.channels_le)) at in
-      rw (tag.0, tag_at bits s 0 Open c (p + 3) facts.channels_ge facts.channels_le, le-leb (0 + c) c (omega arith), audio_at s t passage facts held samples tag.1)
+      rw (tag.0, tag_at bits s 0 None c (p + 3) facts.channels_ge facts.channels_le, le-leb (0 + c) c (omega arith), audio_at s t passage facts held samples tag.1)
       (ap (got (audio sound)) (simp (length-append, length_digits) (omega arith)))
 
   -- the element, and END
   turns_at : {bits : List ℕ} {p : ℕ} (most : ℕ) → At bits p (first ++ digits 3 7)
       → let q = p + length first + 3 in
-      q + to_edge q ≤ length bits → run bits s (suc (suc most)) 0 Open p ≡ got sound (q + to_edge q)
+      q + to_edge q ≤ length bits → run bits s (suc (suc most)) 0 None p ≡ got sound (q + to_edge q)
   unfolding run onward followed bind
   turns_at {bits} most at fit =
       let c : ℕ = 0 + length sound.chans in

@@ -119,11 +119,11 @@ numbers-length zero w bits = refl
 numbers-length (suc n) w bits = ap suc (numbers-length n w (drop w bits))
 
 -- channels of n samples each
-abbrev pub Long : ℕ → List (List ℤ) → Type 0
-Long n = Every (λ (l : List ℤ). length l ≡ n)
+abbrev pub Long : {A : Type 0} → ℕ → List (List A) → Type 0
+Long {A} n = Every (λ (l : List A). length l ≡ n)
 
 -- w channels of n samples each
-pub record Formed (w n : ℕ) (chans : List (List ℤ)) : Type 0 where
+pub record Formed {A : Type 0} (w n : ℕ) (chans : List (List A)) : Type 0 where
   pub count : length chans ≡ w
   pub long : Long n chans
 

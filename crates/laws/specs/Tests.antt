@@ -24,7 +24,7 @@ chain_passed a (b ∷ bs) e =
     let p = and_parts a b r.0 in
     (p.0, (p.1, r.1))
 
-pub record AcceptedFields (w : Width) (s : StreamInfo) : Type 0 where
+pub record AcceptedFields {A : Type 0} (w : Width A) (s : StreamInfo) : Type 0 where
   pub frame_ge : 1 ≤ s.frame_length
   pub frame_le : s.frame_length ≤ 4096
   pub depth : w.takes s.bit_depth ≡ true
@@ -33,7 +33,7 @@ pub record AcceptedFields (w : Width) (s : StreamInfo) : Type 0 where
   pub kb_ge : 1 ≤ s.kb
   pub kb_le : s.kb ≤ 31
 
-pub accepted_fields : (w : Width) (s : StreamInfo) → accepted w s ≡ true → AcceptedFields w s
+pub accepted_fields : {A : Type 0} (w : Width A) (s : StreamInfo) → accepted w s ≡ true → AcceptedFields w s
 unfolding accepted
 accepted_fields w s e =
     let frame = s.frame_length in

@@ -1,10 +1,9 @@
 -- One walk over the reading rules: a relation that the smallest readers keep, and that goes through `bind`, holds of the whole reader.
 use Prim.Native.Nat.{ℕ, zero, suc, ◌+◌, ◌-◌, ◌*◌, ◌%◌, ◌^◌}
-use Rattle.std.specs.Prelude.{Bool, true, false, ◌&&◌, ◌||◌, leb, ltb}
+use Rattle.std.specs.Prelude.{Bool, true, false, ◌&&◌, ◌||◌, leb, ltb, Option}
 use mathlib.Core.List.{List, [], ◌∷◌}
 use Rattle.std.proofs.Math.Dec.{eqb}
 use Rattle.rules.specs.declared.StreamInfo.{StreamInfo}
-use Rattle.rules.specs.declared.Samples.{Samples}
 use Rattle.rules.specs.declared.Refusal.{Refusal}
 use Rattle.rules.specs.declared.Refusal.TheVariants as refusal
 use Rattle.rules.specs.Answers.{pick, Read, ◌>>=◌, give, refuse, times, each, check}
@@ -186,17 +185,17 @@ module _ (bits bits' : List ℕ) (s : StreamInfo) (R : (A : Type 0) → Read A �
     unfolding fill_element
     fill_kept = kept.binds (kept.fields 4) (λ n. kept.binds (check-kept (leb n 14) refusal.Fill) (λ u. bytes_kept n))
 
-    sound-kept : (so_far : ℕ) (m : Samples) (channels : ℕ) → R Turn (sound_element bits s so_far m channels) (sound_element bits' s so_far m channels)
+    sound-kept : (so_far : ℕ) (m : Option ℕ) (channels : ℕ) → R Turn (sound_element bits s so_far m channels) (sound_element bits' s so_far m channels)
     unfolding sound_element
     sound-kept so_far m channels =
         kept.binds (check-kept (leb (so_far + channels) s.num_channels) refusal.ManyChannels) (λ u.
         kept.binds (element-kept channels) (λ sound. kept.binds (check-kept (agrees m sound.samples) refusal.Disagree) (λ v. kept.gives (audio sound))))
 
-    end_kept : (so_far : ℕ) (m : Samples) → R Turn (end_element bits s so_far m) (end_element bits' s so_far m)
+    end_kept : (so_far : ℕ) (m : Option ℕ) → R Turn (end_element bits s so_far m) (end_element bits' s so_far m)
     unfolding end_element
     end_kept so_far m = kept.binds kept.edges (λ u. kept.binds (check-kept (leb s.num_channels so_far) refusal.FewChannels) (λ v. kept.gives (end (number_known m))))
 
-    pub tagged-kept : (so_far : ℕ) (m : Samples) (tag : ℕ) → R Turn (tagged bits s so_far m tag) (tagged bits' s so_far m tag)
+    pub tagged-kept : (so_far : ℕ) (m : Option ℕ) (tag : ℕ) → R Turn (tagged bits s so_far m tag) (tagged bits' s so_far m tag)
     unfolding tagged
     tagged-kept so_far m tag =
         pick-kept (eqb tag 0) (sound-kept so_far m 1)
@@ -207,18 +206,18 @@ module _ (bits bits' : List ℕ) (s : StreamInfo) (R : (A : Type 0) → Read A �
         (pick-kept (eqb tag 5) (kept.refuses refusal.Unsupported)
         (pick-kept (eqb tag 6) fill_kept (end_kept so_far m)))))))
 
-    turn-kept : (so_far : ℕ) (m : Samples) → R Turn (turn bits s so_far m) (turn bits' s so_far m)
+    turn-kept : (so_far : ℕ) (m : Option ℕ) → R Turn (turn bits s so_far m) (turn bits' s so_far m)
     unfolding turn
     turn-kept so_far m = kept.binds (kept.fields 3) (tagged-kept so_far m)
 
-    onward-kept : (so_far : ℕ) (m : Samples) {go go' : ℕ → Samples → Read Sound} → ((c : ℕ) (n : Samples) → R Sound (go c n) (go' c n))
+    onward-kept : (so_far : ℕ) (m : Option ℕ) {go go' : ℕ → Option ℕ → Read Sound} → ((c : ℕ) (n : Option ℕ) → R Sound (go c n) (go' c n))
         → (t : Turn) → R Sound (onward so_far m go t) (onward so_far m go' t)
     unfolding onward
     onward-kept so_far m h (audio sound) = kept.binds (h _ _) (λ rest. kept.gives _)
     onward-kept so_far m h passed = h so_far m
     onward-kept so_far m h (end n) = kept.gives _
 
-    pub turns_kept : (most so_far : ℕ) (m : Samples) → R Sound (run bits s most so_far m) (run bits' s most so_far m)
+    pub turns_kept : (most so_far : ℕ) (m : Option ℕ) → R Sound (run bits s most so_far m) (run bits' s most so_far m)
     unfolding run
     turns_kept zero so_far m = kept.refuses refusal.Short
     turns_kept (suc most) so_far m = kept.binds (turn-kept so_far m) (onward-kept so_far m (turns_kept most))

@@ -2,21 +2,21 @@
 use Prim.Native.Nat.{ℕ, zero, suc, ◌+◌, ◌-◌, ◌*◌, ◌≤◌, ◌<◌}
 use mathlib.Core.Path.{◌≡◌, refl, sym, ◌∙◌}
 use mathlib.Core.List.{List, [], ◌∷◌, ◌++◌, append_assoc, append-nil}
-use native.Mathlib.Nat.{sub-zero, zero-mul, mul-zero, one-mul, add-zero, add-mul, mul-add, mul-le-mul_left, mul-le-mul_right}
+use native.Mathlib.Nat.{one-mul, add-mul, mul-add}
 use native.Mathlib.Numerals.{add-one}
 use native.Mathlib.Omega.{arith}
 use lib.ListN.{length, get_or, take, drop, set, length-append, length-take, length-drop, length-set, take-append-drop, drop_of_length-le}
 use lib.Seq.{length-take-le, take_all, take-take, take-suc-set, take-set-lt, take-set-le, drop-cons, drop-set-lt, drop-set-add, drop-drop, get_or-take, get_or-drop, get_or-set_other}
 use lib.IntN.{ℤ, pos}
-use Rattle.rules.specs.declared.Place.{Place}
-use Rattle.rules.specs.Bits.{bit_of, num, field}
+use Rattle.std.specs.Prelude.{Result, Ok, Err, IsOk}
+use Rattle.rules.specs.declared.Refusal.{Refusal}
+use Rattle.rules.specs.Bits.{num, field}
 use Rattle.rules.specs.Buffers.{laid, every, up_to, lanes, pairs}
 use Rattle.rules.specs.Mix.{on_pair}
 use Rattle.rules.specs.Element.{numbers, extended}
-use Rattle.bitcursor.specs.declared.Got.{Got}
-use Rattle.bitcursor.specs.declared.Got.TheVariants.{Value, Short}
+use Rattle.bitcursor.specs.Cursor.{Cursor}
 use Rattle.bitcursor.specs.Reads.{Reads}
-use Rattle.bitcursor.proofs.Laws.{within_value, within_got, value_of, short_of}
+use Rattle.bitcursor.proofs.Laws.{within_value, within_got, value_of, refused_of}
 use Rattle.buffers.specs.Halves.{parts, with_parts}
 use Rattle.mix.specs.Finish.{Extendable, Took}
 use Rattle.laws.specs.Buffers.{laid-all}
@@ -160,18 +160,20 @@ module _
 
 -- ---- extra bits
 
-module _ (bits : List ℕ) (shift p : ℕ) {g : Got} (r : Reads (field bits shift p) g) where
-  pub never_short : p + shift ≤ length bits → {pl : Place} → g ≡ Short pl → ⊥
-  never_short h e =
-      let a = sym (within_value bits shift (num (take shift (drop p bits))) p h) ∙ short_of r e in
-      let z : ◌≡◌ {A = ℕ} 0 1 = cc in
-      omega arith
+module _ {was is : Cursor} (shift : ℕ) {r : Result ℕ Refusal} (t : Reads (λ v. v) (λ bits. field bits shift) was is r) where
+  pub never_short : was.at + shift ≤ length was.bits → IsOk r
+  never_short h = by r refl
+    where
+      by : (q : Result ℕ Refusal) → r ≡ q → IsOk q
+      by (Ok v) e = refl
+      by (Err x) e =
+          let a = sym (within_value was.bits shift (num (take shift (drop was.at was.bits))) was.at h) ∙ refused_of t e in
+          cc
 
-  pub takes_in : (k : ℕ) (was : List ℤ) {v : ℕ} {pl : Place} {x : ℤ} → g ≡ Value v pl → x ≡ extended shift (get_or was k (pos 0)) v
-      → Took bits p shift k was (set was k x) pl
-  takes_in k was e d =
-      let a = within_got bits shift (num (take shift (drop p bits))) p (value_of r e) in
-      record { sample = rw (d, a.0); after = a.1 }
+  pub takes_in : (k : ℕ) (scr : List ℤ) {v : ℕ} {x : ℤ} → r ≡ Ok v → x ≡ extended shift (get_or scr k (pos 0)) v → Took was is shift k scr (set scr k x)
+  takes_in k scr e d =
+      let a = within_got was.bits shift (num (take shift (drop was.at was.bits))) was.at (value_of t e) in
+      record { sample = rw (d, a.0); after = a.1; same = t.same }
 
 -- w fields of `shift` bits further on
 place_next : (start shift i w : ℕ) {p : ℕ} → p ≡ start + shift * (i * w) → p + shift * w ≡ start + shift * ((i + 1) * w)
@@ -179,93 +181,83 @@ place_next start shift i w e =
     let a : (i + 1) * w ≡ i * w + w = omega (arith, add-mul i 1 w, one-mul w) in
     rw a (omega (arith, mul-add shift (i * w) w))
 
-module _ (bits : List ℕ) (half n shift start : ℕ) where
-  -- channels that are done up to i; the other samples' extra bits lie at place p
-  abbrev extended_from : ℕ → ℕ → ℕ → List ℤ → List (List ℤ)
-  extended_from w i p s =
-      pairs (λ xs es. take i xs ++ pairs (extended shift) (drop i xs) es) (parts half n w s) (lanes w (numbers ((n - i) * w) shift (drop p bits)))
+module _ (start : Cursor) (half n shift : ℕ) where
+  -- channels that are done up to i; the other samples' extra bits come next
+  abbrev extended_from : ℕ → ℕ → Cursor → List ℤ → List (List ℤ)
+  extended_from w i now s =
+      pairs (λ xs es. take i xs ++ pairs (extended shift) (drop i xs) es) (parts half n w s) (lanes w (numbers ((n - i) * w) shift (drop now.at now.bits)))
 
   abbrev all_extended : ℕ → List ℤ → List (List ℤ)
-  all_extended w s = pairs (pairs (extended shift)) (parts half n w s) (lanes w (numbers (n * w) shift (drop start bits)))
+  all_extended w s = pairs (pairs (extended shift)) (parts half n w s) (lanes w (numbers (n * w) shift (drop start.at start.bits)))
 
-  pub record Appending (w : ℕ) (was is : List ℤ) (p i : ℕ) : Type 0 where
+  pub record Appending (w : ℕ) (was is : List ℤ) (now : Cursor) (i : ℕ) : Type 0 where
     pub same : length is ≡ length was
-    pub place : p ≡ start + shift * (i * w)
-    pub goes : with_parts half (extended_from w i p is) is ≡ with_parts half (all_extended w was) was
-
-  pub appending_start : (w : ℕ) (was : List ℤ) → Appending w was was start 0
-  appending_start w was = record { same = refl; place = rw (zero-mul, mul-zero, add-zero); goes = rw sub-zero }
+    pub bits : now.bits ≡ start.bits
+    pub place : now.at ≡ start.at + shift * (i * w)
+    pub goes : with_parts half (extended_from w i now is) is ≡ with_parts half (all_extended w was) was
 
 module _
-    {bits : List ℕ} {half n shift start : ℕ} {was is : List ℤ} {p i : ℕ}
+    {start now now' : Cursor} {half n shift : ℕ} {was is is' : List ℤ} {i : ℕ}
     (h : i < n) (short : n ≤ half) (room : 2 * half ≤ length was) where
-  next_one : {is' : List ℤ} {pl : Place} → Appending bits half n shift start 1 was is p i → Took bits p shift i is is' pl
-      → Appending bits half n shift start 1 was is' (bit_of pl) (i + 1)
+  next_one : Appending start half n shift 1 was is now i → Took now now' shift i is is' → Appending start half n shift 1 was is' now' (i + 1)
   unfolding parts pairs up_to every numbers
   next_one u t =
       let k : 2 * half ≤ length is = omega (arith, u.same) in
       let e : (n - i) * 1 ≡ suc ((n - (i + 1)) * 1) = omega arith in
-      let x : ℤ = extended shift (get_or is i (pos 0)) (num (take shift (drop p bits))) in
-      let v : Appending bits half n shift start 1 was (set is i x) (p + shift) (i + 1) = record {
+      let x : ℤ = extended shift (get_or is i (pos 0)) (num (take shift (drop now.at now.bits))) in
+      rw t.sample (record {
         same = simp length-set u.same;
-        place = omega (arith, place_next start shift i 1 u.place);
-        goes = turn_one half n is i h short k x _ ∙ (rw (e, drop-drop, rest-next n is i x h (in_first half n is i h short k)) at u.goes);
-      } in
-      rw (t.sample, t.after) v
+        bits = t.same ∙ u.bits;
+        place = omega (arith, t.after, place_next start.at shift i 1 u.place);
+        goes =
+            rw (t.after, t.same) (turn_one half n is i h short k x _
+            ∙ (rw (e, drop-drop, rest-next n is i x h (in_first half n is i h short k)) at u.goes));
+      })
 
-  next_two : {mid is' : List ℤ} {pl ql : Place} → Appending bits half n shift start 2 was is p i
-      → Took bits p shift i is mid pl → Took bits (bit_of pl) shift (half + i) mid is' ql
-      → Appending bits half n shift start 2 was is' (bit_of ql) (i + 1)
+  next_two : {mid : List ℤ} {between : Cursor} → Appending start half n shift 2 was is now i
+      → Took now between shift i is mid → Took between now' shift (half + i) mid is' → Appending start half n shift 2 was is' now' (i + 1)
   unfolding parts pairs up_to every numbers
   next_two u t r =
       let k : 2 * half ≤ length is = omega (arith, u.same) in
       let e : (n - i) * 2 ≡ suc (suc ((n - (i + 1)) * 2)) = omega arith in
-      let x : ℤ = extended shift (get_or is i (pos 0)) (num (take shift (drop p bits))) in
-      let y : ℤ = extended shift (get_or is (half + i) (pos 0)) (num (take shift (drop (p + shift) bits))) in
+      let p : ℕ = now.at in
+      let x : ℤ = extended shift (get_or is i (pos 0)) (num (take shift (drop p now.bits))) in
+      let y : ℤ = extended shift (get_or is (half + i) (pos 0)) (num (take shift (drop (p + shift) now.bits))) in
       let other : half + i ≡ i → ⊥ = λ a. omega arith in
-      let v : Appending bits half n shift start 2 was (set (set is i x) (half + i) y) (p + shift + shift) (i + 1) = record {
+      let stored : is' ≡ set (set is i x) (half + i) y =
+      r.sample ∙ rw (t.sample, t.after, t.same, get_or-set_other is i (half + i) x (pos 0) other) in
+      let after : now'.at ≡ p + shift + shift = omega (arith, t.after, r.after) in
+      let same : now'.bits ≡ now.bits = r.same ∙ t.same in
+      rw stored (record {
         same = simp length-set u.same;
-        place = omega (arith, place_next start shift i 2 u.place);
+        bits = same ∙ u.bits;
+        place = omega (arith, after, place_next start.at shift i 2 u.place);
         goes =
-            turn_two half n is i h short k x y _ _
+            rw (after, same) (turn_two half n is i h short k x y _ _
             ∙ (rw (
               e,
-              drop-drop shift p bits,
-              drop-drop shift (p + shift) bits,
+              drop-drop shift p now.bits,
+              drop-drop shift (p + shift) now.bits,
               low_next half n is i h short k x y,
               high_next half n is i h short k x y,
-            ) at u.goes);
-      } in
-      rw (r.sample, r.after, t.sample, t.after, get_or-set_other is i (half + i) x (pos 0) other) v
+            ) at u.goes));
+      })
 
 module _
-    {bits : List ℕ} {half n shift start w : ℕ} {was is : List ℤ} {p i : ℕ}
-    (a : Extendable bits start half n w shift was) (u : Appending bits half n shift start w was is p i) (h : i < n) where
-  -- the bits of this turn are there
-  turn_there : p + shift * w ≤ length bits
-  turn_there =
-      omega (arith, place_next start shift i w u.place, mul-le-mul_left shift (mul-le-mul_right {m = i + 1} {n = n} w (omega arith)), a.there)
-
-  pub first_there : p + shift ≤ length bits
-  first_there = omega (arith, turn_there, mul-le-mul_left {m = 1} {n = w} shift a.roomy.some)
-
-  pub second_there : w ≡ 2 → {mid : List ℤ} {k : ℕ} {pl : Place} → Took bits p shift k is mid pl → bit_of pl + shift ≤ length bits
-  second_there e t = rw t.after (omega (arith, rw e at turn_there))
-
-  pub appending_one : (w ≡ 2 → ⊥) → {is' : List ℤ} {pl : Place} → Took bits p shift i is is' pl
-      → Appending bits half n shift start w was is' (bit_of pl) (i + 1)
+    {start now : Cursor} {half n shift w : ℕ} {was is : List ℤ} {i : ℕ}
+    (a : Extendable start half n w shift was) (u : Appending start half n shift w was is now i) (h : i < n) where
+  pub appending_one : (w ≡ 2 → ⊥) → {now' : Cursor} {is' : List ℤ} → Took now now' shift i is is' → Appending start half n shift w was is' now' (i + 1)
   appending_one other t =
       let e : w ≡ 1 = omega (arith, a.roomy.some, a.roomy.two) in
       rw e (next_one h a.roomy.short a.roomy.room (rw e at u) t)
 
-  pub appending_two : w ≡ 2 → {mid is' : List ℤ} {pl ql : Place}
-      → Took bits p shift i is mid pl → Took bits (bit_of pl) shift (half + i) mid is' ql
-      → Appending bits half n shift start w was is' (bit_of ql) (i + 1)
+  pub appending_two : w ≡ 2 → {between now' : Cursor} {mid is' : List ℤ}
+      → Took now between shift i is mid → Took between now' shift (half + i) mid is' → Appending start half n shift w was is' now' (i + 1)
   appending_two e t r = rw e (next_two h a.roomy.short a.roomy.room (rw e at u) t r)
 
-module _ {bits : List ℕ} {half n shift start : ℕ} {was is : List ℤ} {p i : ℕ} where
-  pub appending_done : (w : ℕ) → Extendable bits start half n w shift was → Appending bits half n shift start w was is p i → n ≤ i
-      → is ≡ with_parts half (all_extended bits half n shift start w was) was
+module _ {start now : Cursor} {half n shift : ℕ} {was is : List ℤ} {i : ℕ} where
+  pub appending_done : (w : ℕ) → Extendable start half n w shift was → Appending start half n shift w was is now i → n ≤ i
+      → is ≡ with_parts half (all_extended start half n shift w was) was
   unfolding parts pairs up_to with_parts
   appending_done zero a u h = absurd (omega (arith, a.roomy.some))
   appending_done (suc zero) a u h =

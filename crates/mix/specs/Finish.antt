@@ -1,8 +1,8 @@
 -- The reader's last step, unmixing and then the extra bits: what each part asks, and what a sample becomes that takes in its bits.
 use Rattle.std.specs.Prelude.{ℕ, ◌+◌, ◌*◌, ◌≤◌, ◌<◌, ◌≡◌, List, length, get_or, take, drop, set, ℤ, pos}
-use Rattle.rules.specs.declared.Place.{Place}
-use Rattle.rules.specs.Bits.{bit_of, num}
+use Rattle.rules.specs.Bits.{num}
 use Rattle.rules.specs.Element.{extended}
+use Rattle.bitcursor.specs.Cursor.{Cursor}
 use Rattle.buffers.specs.Fills.{Roomy}
 
 -- ---- unmixing
@@ -21,22 +21,23 @@ pub record UnmixAsked (half n w mix_bits mix_res : ℕ) (scratch : List ℤ) : T
 
 -- ---- extra bits
 
--- the sample at k lies in scratch, and its extra bits at place p
-pub record Takes (bits : List ℕ) (p shift k : ℕ) (scr : List ℤ) : Type 0 where
+-- the sample at k lies in scratch, and its extra bits come next
+pub record Takes (extra : Cursor) (shift k : ℕ) (scr : List ℤ) : Type 0 where
   pub inside : k < length scr
   pub few : shift ≤ 16
-  pub there : p + shift ≤ length bits
+  pub there : extra.at + shift ≤ length extra.bits
 
--- the sample at k took in its extra bits, and the place after them
-pub record Took (bits : List ℕ) (p shift k : ℕ) (was is : List ℤ) (next : Place) : Type 0 where
-  pub sample : is ≡ set was k (extended shift (get_or was k (pos 0)) (num (take shift (drop p bits))))
-  pub after : bit_of next ≡ p + shift
+-- the sample at k took in its extra bits, and the cursor stands after them
+pub record Took (was is : Cursor) (shift k : ℕ) (scr scr' : List ℤ) : Type 0 where
+  pub sample : scr' ≡ set scr k (extended shift (get_or scr k (pos 0)) (num (take shift (drop was.at was.bits))))
+  pub after : is.at ≡ was.at + shift
+  pub same : is.bits ≡ was.bits
 
--- one channel or two lie in scratch, and all their extra bits at place p
-pub record Extendable (bits : List ℕ) (p half n w shift : ℕ) (scratch : List ℤ) : Type 0 where
+-- one channel or two lie in scratch, and all their extra bits come next
+pub record Extendable (extra : Cursor) (half n w shift : ℕ) (scratch : List ℤ) : Type 0 where
   pub roomy : Roomy half n w scratch
   pub few : shift ≤ 16
-  pub there : p + shift * (n * w) ≤ length bits
+  pub there : extra.at + shift * (n * w) ≤ length extra.bits
 
 -- ---- one after the other
 

@@ -2,7 +2,6 @@
 #![tactic(auto)]
 
 ghost use Rattle.std.specs.Prelude.{◌≡◌, ◌*◌, ◌<◌, drop, length, get_or, []};
-ghost use Rattle.rules.specs.Bits.{bit_of, bits_of};
 ghost use Rattle.rules.specs.Buffers.{lanes, pairs, lane};
 ghost use Rattle.rules.specs.Mix.{right_of, left_of, on_pair, unmixed, mid_of, mixed};
 ghost use Rattle.rules.specs.Element.{numbers, extended, with_extra};
@@ -11,8 +10,7 @@ ghost use Rattle.buffers.specs.Halves.{parts, with_parts};
 ghost use Rattle.mix.specs.Finish.{Unmixable, UnmixAsked, Takes, Took, Extendable, Finishable};
 ghost use Rattle.mix.specs.Mixable.{Mixable, mixed_sample};
 
-use bitcursor::{Got, read};
-use rules::Place;
+use bitcursor::BitCursor;
 use words::{
     number_of, shift_down, shift_up, sign_extend, wrapping_add_i32, wrapping_mul_i32,
     wrapping_sub_i32,
@@ -54,46 +52,32 @@ fn extend(x: i32, shift: u32, extra: u32) -> i32
     wrapping_add_i32(high, low)
 }
 
-// The sample at `k` takes in its extra bits. They lie at `at`, so the read is never short.
-fn append_at(packet: &[u8], at: Place, scratch: &mut [i32], k: usize, shift: u32) -> Place
-    requires { Takes (bits_of packet.now) (bit_of at) shift k scratch.old }
-    ensures { Took (bits_of packet.now) (bit_of at) shift k scratch.old scratch.new result }
+// The sample at `k` takes in its extra bits. They are there, so the read is never short.
+fn append_at(extra: &mut BitCursor<'_>, scratch: &mut [i32], k: usize, shift: u32)
+    requires { Takes extra.old shift k scratch.old }
+    ensures { Took extra.old extra.new shift k scratch.old scratch.new }
 {
-    let got = read(packet, at, shift);
-    let Got::Value(extra, next) = got else {
-        return at;
-    };
-    let sample = extend(scratch[k], shift, extra);
-    scratch[k] = sample;
-    next
+    let low = extra.read(shift).unwrap();
+    scratch[k] = extend(scratch[k], shift, low);
 }
 
 // Extra bits lie sample by sample, a pair's first channel before its second.
 fn append_extra_bits(
-    packet: &[u8],
-    start: Place,
+    mut extra: BitCursor<'_>,
     scratch: &mut [i32],
     half: usize,
     n: usize,
-    channels: usize,
+    channels: u32,
     shift: u32,
 )
-    requires { Extendable (bits_of packet.now) (bit_of start) half n channels shift scratch.old }
-    ensures { scratch.new ≡ with_parts half (pairs (pairs (extended shift)) (parts half n channels scratch.old) (lanes channels (numbers (n * channels) shift (drop (bit_of start) (bits_of packet.now))))) scratch.old }
+    requires { Extendable extra half n channels shift scratch.old }
+    ensures { scratch.new ≡ with_parts half (pairs (pairs (extended shift)) (parts half n channels scratch.old) (lanes channels (numbers (n * channels) shift (drop extra.entry.at extra.entry.bits)))) scratch.old }
 {
-    let mut at = start;
-    let mut i = 0;
-    while i < n {
-        let k = half + i;
-        let next = append_at(packet, at, scratch, i, shift);
-        at.byte = next.byte;
-        at.bit = next.bit;
+    for i in 0..n {
+        append_at(&mut extra, scratch, i, shift);
         if channels == 2 {
-            let after = append_at(packet, at, scratch, k, shift);
-            at.byte = after.byte;
-            at.bit = after.bit;
+            append_at(&mut extra, scratch, half + i, shift);
         }
-        i += 1;
     }
 }
 
@@ -104,39 +88,31 @@ fn unmix(scratch: &mut [i32], half: usize, n: usize, channels: u32, mix_bits: u3
     requires { UnmixAsked half n channels mix_bits mix_res scratch.old }
     ensures { scratch.new ≡ with_parts half (unmixed mix_bits (signed 8 mix_res) (parts half n channels scratch.old)) scratch.old }
 {
-    if channels == 1 {
-        return;
+    if channels == 2 && mix_res != 0 {
+        unmix_stereo(scratch, half, n, mix_bits, sign_extend(mix_res as i32, 8));
     }
-    if mix_res == 0 {
-        return;
-    }
-    let res = sign_extend(mix_res as i32, 8);
-    unmix_stereo(scratch, half, n, mix_bits, res);
 }
 
 // Each sample is shifted left and takes its extra bits, where there are any.
 fn extend_all(
-    packet: &[u8],
-    extra: Place,
+    extra: BitCursor<'_>,
     scratch: &mut [i32],
     half: usize,
     n: usize,
     channels: u32,
     shift: u32,
 )
-    requires { Extendable (bits_of packet.now) (bit_of extra) half n channels shift scratch.old }
-    ensures { scratch.new ≡ with_parts half (with_extra channels shift (numbers (n * channels) shift (drop (bit_of extra) (bits_of packet.now))) (parts half n channels scratch.old)) scratch.old }
+    requires { Extendable extra half n channels shift scratch.old }
+    ensures { scratch.new ≡ with_parts half (with_extra channels shift (numbers (n * channels) shift (drop extra.entry.at extra.entry.bits)) (parts half n channels scratch.old)) scratch.old }
 {
-    if shift == 0 {
-        return;
+    if shift != 0 {
+        append_extra_bits(extra, scratch, half, n, channels, shift);
     }
-    append_extra_bits(packet, extra, scratch, half, n, channels as usize, shift);
 }
 
-// Both, one after the other.
+// Both, one after the other. The extra bits lie at a place of their own.
 pub fn finish(
-    packet: &[u8],
-    extra: Place,
+    extra: BitCursor<'_>,
     scratch: &mut [i32],
     half: usize,
     n: usize,
@@ -145,11 +121,11 @@ pub fn finish(
     mix_bits: u32,
     mix_res: u32,
 )
-    requires { Finishable (bits_of packet.now) (bit_of extra) half n channels shift mix_bits mix_res scratch.old }
-    ensures { scratch.new ≡ with_parts half (with_extra channels shift (numbers (n * channels) shift (drop (bit_of extra) (bits_of packet.now))) (unmixed mix_bits (signed 8 mix_res) (parts half n channels scratch.old))) scratch.old }
+    requires { Finishable extra.bits extra.at half n channels shift mix_bits mix_res scratch.old }
+    ensures { scratch.new ≡ with_parts half (with_extra channels shift (numbers (n * channels) shift (drop extra.entry.at extra.entry.bits)) (unmixed mix_bits (signed 8 mix_res) (parts half n channels scratch.old))) scratch.old }
 {
     unmix(scratch, half, n, channels, mix_bits, mix_res);
-    extend_all(packet, extra, scratch, half, n, channels, shift);
+    extend_all(extra, scratch, half, n, channels, shift);
 }
 
 // ---- The writer's mix: one channel of a passage at a time.
@@ -181,9 +157,8 @@ fn copy_lane(passage: &[i16], channels: usize, which: usize, out: &mut [i32])
     requires passage_len { length passage.now ≡ length out.old * channels }
     ensures { out.new ≡ lane channels passage.now which }
 {
-    for i in 0..out.len() {
-        let sample = passage[i * channels + which] as i32;
-        out[i] = sample;
+    for (i, sample) in out.iter_mut().enumerate() {
+        *sample = passage[i * channels + which] as i32;
     }
 }
 
@@ -192,11 +167,10 @@ fn mix_pairs(passage: &[i16], which: usize, mix_bits: u32, mix_res: i32, out: &m
     requires { Mixable 2 which mix_bits (length out.old) passage.now }
     ensures { out.new ≡ get_or (on_pair (mid_of mix_bits mix_res) sub32 (lanes 2 passage.now)) which [] }
 {
-    for i in 0..out.len() {
+    for (i, sample) in out.iter_mut().enumerate() {
         let l = passage[i * 2] as i32;
         let r = passage[i * 2 + 1] as i32;
-        let sample = mix_pair(l, r, which, mix_bits, mix_res);
-        out[i] = sample;
+        *sample = mix_pair(l, r, which, mix_bits, mix_res);
     }
 }
 

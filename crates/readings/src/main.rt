@@ -15,20 +15,17 @@ use crate::writer::Look;
 use std::io;
 
 fn main(rt: HostRuntime) -> io::Result<()> {
-    let counts = report::Counts {
-        readings: 0,
-        failed: 0,
-    };
-    let counts = tables::readings(&rt, counts, Kind::Cookie)?;
-    let counts = cookies::fields(&rt, counts)?;
-    let counts = cookies::sizes(&rt, counts)?;
-    let counts = bits::readings(&rt, counts)?;
-    let counts = tables::readings(&rt, counts, Kind::Reader)?;
-    let counts = tables::readings(&rt, counts, Kind::Writer(Look::Packet))?;
-    let counts = tables::readings(&rt, counts, Kind::WholeFrame)?;
-    let counts = tables::readings(&rt, counts, Kind::Writer(Look::Samples))?;
-    let counts = tables::readings(&rt, counts, Kind::Writer(Look::Nothing))?;
-    let counts = tables::readings(&rt, counts, Kind::Writer(Look::Buffers))?;
-    let counts = tables::readings(&rt, counts, Kind::Reader)?;
-    report::total(&rt, counts)
+    let mut counts = report::Counts::default();
+    tables::readings(&rt, &mut counts, Kind::Cookie)?;
+    cookies::fields(&rt, &mut counts)?;
+    cookies::sizes(&rt, &mut counts)?;
+    bits::readings(&rt, &mut counts)?;
+    tables::readings(&rt, &mut counts, Kind::Reader)?;
+    tables::readings(&rt, &mut counts, Kind::Writer(Look::Packet))?;
+    tables::readings(&rt, &mut counts, Kind::WholeFrame)?;
+    tables::readings(&rt, &mut counts, Kind::Writer(Look::Samples))?;
+    tables::readings(&rt, &mut counts, Kind::Writer(Look::Nothing))?;
+    tables::readings(&rt, &mut counts, Kind::Writer(Look::Buffers))?;
+    tables::readings(&rt, &mut counts, Kind::Reader)?;
+    println!(rt; "{counts}")
 }

@@ -10,7 +10,6 @@
 //  at by                     where in the text the packet begins, and its bytes: two hexadecimal digits each, a blank between
 ghost use Rattle.std.specs.Prelude.{◌≤◌};
 
-use crate::report;
 use crate::report::Counts;
 use crate::streams::stream;
 use rules::{ChannelSettings, PackingSettings, StreamInfo};
@@ -65,10 +64,10 @@ fn channel(pb_factor: u32, quant: u32, order: u32) -> ChannelSettings {
     coefs[0] = 4660;
     coefs[1] = -2;
     ChannelSettings {
-        pb_factor: pb_factor,
-        quant: quant,
-        order: order,
-        coefs: coefs,
+        pb_factor,
+        quant,
+        order,
+        coefs,
     }
 }
 
@@ -99,20 +98,19 @@ pub fn sample_at(row: &[u8], column: u8) -> i16 {
 }
 
 // The row's text, and the number that it gives beside the one that is wanted.
-pub fn gives(rt: &impl Print, counts: Counts, row: &[u8], gave: u32) -> io::Result<Counts> {
+pub fn gives(rt: &impl Print, counts: &mut Counts, row: &[u8], gave: u32) -> io::Result<()> {
     let end = TEXT + number_at(row, 23) as usize;
     if end <= row.len() {
-        return report::gives(rt, counts, &row[TEXT..end], gave, number_at(row, 22));
+        return counts.gives(rt, &row[TEXT..end], gave, number_at(row, 22));
     }
-    Ok(counts)
+    Ok(())
 }
 
 // A part that is lent is never longer than what it is a part of.
 pub fn number_up_to(row: &[u8], column: u8, most: usize) -> usize
     ensures { result ≤ most }
 {
-    let number = number_at(row, column) as usize;
-    if number < most { number } else { most }
+    most.min(number_at(row, column) as usize)
 }
 
 pub fn number_at(row: &[u8], column: u8) -> u32 {
@@ -152,5 +150,5 @@ fn digit_at(row: &[u8], at: usize) -> u8 {
 }
 
 fn character_at(row: &[u8], at: usize) -> u8 {
-    if at < row.len() { row[at] } else { b' ' }
+    *row.get(at).unwrap_or(&b' ')
 }

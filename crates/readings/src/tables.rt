@@ -15,16 +15,15 @@ pub enum Kind {
     WholeFrame,
 }
 
-pub fn readings(rt: &(impl Input + Print), counts: Counts, kind: Kind) -> io::Result<Counts> {
+pub fn readings(rt: &(impl Input + Print), counts: &mut Counts, kind: Kind) -> io::Result<()> {
     let heading = row_read(rt);
-    let mut counts = counts;
     for _ in 0..number_at(&heading, 0) {
-        counts = next_row(rt, counts, kind)?;
+        next_row(rt, counts, kind)?;
     }
-    Ok(counts)
+    Ok(())
 }
 
-fn next_row(rt: &(impl Input + Print), counts: Counts, kind: Kind) -> io::Result<Counts> {
+fn next_row(rt: &(impl Input + Print), counts: &mut Counts, kind: Kind) -> io::Result<()> {
     let row = row_read(rt);
     let packet = packet_of(&row);
     let count = number_up_to(&row, 25, 72);
@@ -33,11 +32,11 @@ fn next_row(rt: &(impl Input + Print), counts: Counts, kind: Kind) -> io::Result
 
 fn reading(
     rt: &impl Print,
-    counts: Counts,
+    counts: &mut Counts,
     kind: Kind,
     row: &[u8],
     packet: &[u8],
-) -> io::Result<Counts> {
+) -> io::Result<()> {
     match kind {
         Kind::Cookie => cookies::reading(rt, counts, row, packet),
         Kind::Reader => reader::reading(rt, counts, row, packet),

@@ -1,8 +1,8 @@
 // The readings of the writer: its rows, and a whole frame.
 use crate::reader::are_samples;
-use crate::report::{Counts, holds};
+use crate::report::{Counts, number_of};
 use crate::row::{gives, number_at, number_up_to, passage_of, settings_of, stream_of};
-use rules::Packed;
+use rules::Refusal;
 use std::io;
 
 // What is looked at behind the number.
@@ -16,24 +16,24 @@ pub enum Look {
 
 pub fn reading(
     rt: &impl Print,
-    counts: Counts,
+    counts: &mut Counts,
     row: &[u8],
     packet: &[u8],
     look: Look,
-) -> io::Result<Counts> {
+) -> io::Result<()> {
     let mut bytes = [7u8; 128];
     let mut scratch = [7i32; 9];
     let answer = packed(row, &mut bytes, &mut scratch);
-    let counts = gives(rt, counts, row, number_of(answer))?;
+    gives(rt, counts, row, number_of(answer))?;
     match look {
-        Look::Nothing => Ok(counts),
+        Look::Nothing => Ok(()),
         Look::Samples => samples_read(rt, counts, row, &bytes),
         Look::Packet => written(rt, counts, row, packet, answer, &bytes, &scratch),
         Look::Buffers => refused(rt, counts, row, &bytes, &scratch),
     }
 }
 
-fn packed(row: &[u8], bytes: &mut [u8], scratch: &mut [i32]) -> Packed {
+fn packed(row: &[u8], bytes: &mut [u8], scratch: &mut [i32]) -> Result<usize, Refusal> {
     let passage = passage_of(row);
     let samples = number_up_to(row, 13, 6);
     let lent = number_up_to(row, 20, bytes.len());
@@ -50,19 +50,19 @@ fn packed(row: &[u8], bytes: &mut [u8], scratch: &mut [i32]) -> Packed {
 // A packet, byte for byte, with what lies behind it; scratch; and the samples.
 fn written(
     rt: &impl Print,
-    counts: Counts,
+    counts: &mut Counts,
     row: &[u8],
     packet: &[u8],
-    answer: Packed,
+    answer: Result<usize, Refusal>,
     bytes: &[u8; 128],
     scratch: &[i32; 9],
-) -> io::Result<Counts> {
-    let Packed::Accepted(count) = answer else {
-        return Ok(counts);
+) -> io::Result<()> {
+    let Ok(count) = answer else {
+        return Ok(());
     };
-    let counts = holds(rt, counts, b"its bytes", begins(bytes, count, packet))?;
-    let counts = holds(rt, counts, b"the bytes behind stay", stays(bytes, count))?;
-    let counts = scratch_is_clear(rt, counts, row, scratch)?;
+    counts.holds(rt, b"its bytes", begins(bytes, count, packet))?;
+    counts.holds(rt, b"the bytes behind stay", stays(bytes, count))?;
+    scratch_is_clear(rt, counts, row, scratch)?;
     samples_read(rt, counts, row, bytes)
 }
 
@@ -84,44 +84,43 @@ fn stays(bytes: &[u8], count: usize) -> bool {
 // What the writer takes is read back.
 fn samples_read(
     rt: &impl Print,
-    counts: Counts,
+    counts: &mut Counts,
     row: &[u8],
     bytes: &[u8; 128],
-) -> io::Result<Counts> {
+) -> io::Result<()> {
     if number_at(row, 22) > 0 {
-        return Ok(counts);
+        return Ok(());
     }
     let mut out = [7i16; 4];
     let mut scratch = [7i32; 8];
-    let answer = dec::decode_packet_i16(bytes, stream_of(row), &mut out, &mut scratch);
-    holds(rt, counts, b"its samples", are_samples(row, answer, &out))
+    let answer = dec::decode_packet(bytes, stream_of(row), &mut out, &mut scratch);
+    counts.holds(rt, b"its samples", are_samples(row, answer, &out))
 }
 
 // 2 and 3 change no buffer. Past 3 scratch is cleared.
 fn refused(
     rt: &impl Print,
-    counts: Counts,
+    counts: &mut Counts,
     row: &[u8],
     bytes: &[u8; 128],
     scratch: &[i32; 9],
-) -> io::Result<Counts> {
-    let counts = holds(rt, counts, b"every byte stays", stays(bytes, 0))?;
+) -> io::Result<()> {
+    counts.holds(rt, b"every byte stays", stays(bytes, 0))?;
     if number_at(row, 22) > 3 {
         return scratch_is_clear(rt, counts, row, scratch);
     }
-    holds(rt, counts, b"all of scratch stays", is_clear(scratch, 0))
+    counts.holds(rt, b"all of scratch stays", is_clear(scratch, 0))
 }
 
 fn scratch_is_clear(
     rt: &impl Print,
-    counts: Counts,
+    counts: &mut Counts,
     row: &[u8],
     scratch: &[i32; 9],
-) -> io::Result<Counts> {
+) -> io::Result<()> {
     let zeros = number_at(row, 0) as usize * 2;
-    holds(
+    counts.holds(
         rt,
-        counts,
         b"scratch is zero, and stays behind",
         is_clear(scratch, zeros),
     )
@@ -141,10 +140,10 @@ fn is_clear(scratch: &[i32; 9], zeros: usize) -> bool {
 // A passage of zeros: a symbol, then a run of 4095 zeros, which is an escape.
 pub fn whole_frame(
     rt: &impl Print,
-    counts: Counts,
+    counts: &mut Counts,
     row: &[u8],
     packet: &[u8],
-) -> io::Result<Counts> {
+) -> io::Result<()> {
     let passage = [0i16; 4096];
     let mut bytes = [7u8; 11];
     let mut scratch = [7i32; 8193];
@@ -155,19 +154,11 @@ pub fn whole_frame(
         &mut bytes,
         &mut scratch,
     );
-    let counts = gives(rt, counts, row, number_of(answer))?;
-    let counts = holds(rt, counts, b"its bytes", check::same(&bytes, packet))?;
-    holds(
+    gives(rt, counts, row, number_of(answer))?;
+    counts.holds(rt, b"its bytes", check::same(&bytes, packet))?;
+    counts.holds(
         rt,
-        counts,
         b"the last of 8192 places of scratch is zero, the next stays",
         (scratch[8191] == 0) & (scratch[8192] == 7),
     )
-}
-
-fn number_of(answer: Packed) -> u32 {
-    match answer {
-        Packed::Accepted(_) => 0,
-        Packed::Refused(refusal) => rules::number_of(refusal),
-    }
 }

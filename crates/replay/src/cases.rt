@@ -1,6 +1,6 @@
 // A case of the list: a front of 14 bytes and the packet. The front: width (2 or 4), frame length, depth, pb, mb, kb, channels,
 // the packet's length, then the original's answer: number, count, and the checksum of the output places (4 bytes).
-use crate::answers::{Reply, reply_i16, reply_i32};
+use crate::answers::{Reply, answer};
 use crate::report::Case;
 use rules::StreamInfo;
 use std::io::Read;
@@ -9,21 +9,19 @@ use std::io::Read;
 pub fn number_of_cases(rt: &impl Input) -> u32 {
     let mut bytes = [0u8; 2];
     read_full(rt, &mut bytes);
-    big_endian(0, 0, bytes[0], bytes[1])
+    u32::from(u16::from_be_bytes(bytes))
 }
 
 pub fn replayed(rt: &impl Input) -> Case {
     let mut front = [0u8; 14];
     read_full(rt, &mut front);
-    let original = recorded(&front);
-    let ours = answered(rt, front[7], front[0], stream(&front));
     Case {
-        ours: ours,
-        original: original,
+        original: recorded(&front),
+        ours: answered(rt, front[7], front[0], stream(&front)),
     }
 }
 
-// The packet follows its front.
+// The packet follows its front. Each place holds 7 before the call, so those that should stay count too.
 fn answered(rt: &impl Input, length: u8, width: u8, s: StreamInfo) -> Reply {
     let mut bytes = [0u8; 256];
     let n = length as usize;
@@ -33,15 +31,15 @@ fn answered(rt: &impl Input, length: u8, width: u8, s: StreamInfo) -> Reply {
 fn answered_in(rt: &impl Input, packet: &mut [u8], width: u8, s: StreamInfo) -> Reply {
     read_full(rt, packet);
     if width == 2 {
-        reply_i16(packet, s)
+        answer(packet, s, [7i16; 128])
     } else {
-        reply_i32(packet, s)
+        answer(packet, s, [7i32; 128])
     }
 }
 
 fn stream(front: &[u8; 14]) -> StreamInfo {
     StreamInfo {
-        frame_length: wide(front[1]),
+        frame_length: u32::from(front[1]),
         compatible_version: 0,
         bit_depth: front[2],
         pb: front[3],
@@ -57,18 +55,10 @@ fn stream(front: &[u8; 14]) -> StreamInfo {
 
 fn recorded(front: &[u8; 14]) -> Reply {
     Reply {
-        number: wide(front[8]),
-        count: wide(front[9]) as u64,
-        sum: big_endian(front[10], front[11], front[12], front[13]),
+        number: u32::from(front[8]),
+        count: u64::from(front[9]),
+        sum: u32::from_be_bytes([front[10], front[11], front[12], front[13]]),
     }
-}
-
-fn wide(byte: u8) -> u32 {
-    byte as u32
-}
-
-fn big_endian(a: u8, b: u8, c: u8, d: u8) -> u32 {
-    ((a as u32 * 256 + b as u32) * 256 + c as u32) * 256 + d as u32
 }
 
 // Where the list ends early, the places that are left stay zero.

@@ -8,13 +8,9 @@ mod report;
 use std::io;
 
 fn main(rt: HostRuntime) -> io::Result<()> {
-    let mut counts = report::Counts {
-        answers: 0,
-        accepted: 0,
-        differ: 0,
-    };
+    let mut counts = report::Counts::default();
     for _ in 0..cases::number_of_cases(&rt) {
-        counts = report::add(&rt, counts, cases::replayed(&rt))?;
+        counts.add(&rt, cases::replayed(&rt))?;
     }
-    report::total(&rt, counts)
+    println!(rt; "in all {counts}")
 }

@@ -1,6 +1,6 @@
 // A line for each hundred answers, one for each that differs, and the total.
 use crate::answers::Reply;
-use std::io;
+use std::{fmt, io};
 
 #[derive(Clone, Copy)]
 pub struct Case {
@@ -8,63 +8,40 @@ pub struct Case {
     pub original: Reply,
 }
 
-#[derive(Clone, Copy)]
+#[derive(Clone, Copy, Default)]
 pub struct Counts {
-    pub answers: u64,
-    pub accepted: u64,
-    pub differ: u64,
+    answers: u64,
+    accepted: u64,
+    differ: u64,
 }
 
-pub fn add(rt: &impl Print, counts: Counts, case: Case) -> io::Result<Counts> {
-    let next = Counts {
-        answers: counts.answers.wrapping_add(1),
-        accepted: counts
-            .accepted
-            .wrapping_add(one_if(case.original.number == 0)),
-        differ: counts.differ.wrapping_add(one_if(differs(case))),
-    };
-    if differs(case) {
-        complain(rt, next.answers, case)?;
+impl fmt::Display for Counts {
+    fn fmt<W: fmt::Write>(&self, f: &mut fmt::Formatter<W>) -> fmt::Result {
+        write!(
+            f,
+            "{} answers, {} accepted, {} differ",
+            self.answers, self.accepted, self.differ
+        )
     }
-    if next.answers % 100 == 0 {
-        so_far(rt, next)?;
+}
+
+impl Counts {
+    pub fn add(&mut self, rt: &impl Print, case: Case) -> io::Result<()> {
+        let accepted = case.original.number == 0;
+        let differs = case.ours != case.original;
+        self.answers = self.answers.wrapping_add(1);
+        self.accepted = self.accepted.wrapping_add(u64::from(accepted));
+        self.differ = self.differ.wrapping_add(u64::from(differs));
+        if differs {
+            let answer = self.answers;
+            println!(rt;
+                "answer {answer} differs: {}, and should be {}",
+                case.ours, case.original
+            )?;
+        }
+        if self.answers % 100 == 0 {
+            println!(rt; "{self}")?;
+        }
+        Ok(())
     }
-    Ok(next)
-}
-
-pub fn total(rt: &impl Print, counts: Counts) -> io::Result<()> {
-    print!(rt; "in all ")?;
-    so_far(rt, counts)
-}
-
-fn one_if(yes: bool) -> u64 {
-    if yes { 1 } else { 0 }
-}
-
-fn differs(case: Case) -> bool {
-    case.ours.number != case.original.number
-        || case.ours.count != case.original.count
-        || case.ours.sum != case.original.sum
-}
-
-fn complain(rt: &impl Print, answer: u64, case: Case) -> io::Result<()> {
-    print!(rt; "answer {answer} differs: ")?;
-    show(rt, case.ours)?;
-    print!(rt; ", and should be ")?;
-    show(rt, case.original)?;
-    print!(rt; "\n")
-}
-
-fn show(rt: &impl Print, reply: Reply) -> io::Result<()> {
-    print!(rt;
-        "{} count {} checksum {}",
-        reply.number, reply.count, reply.sum
-    )
-}
-
-fn so_far(rt: &impl Print, counts: Counts) -> io::Result<()> {
-    println!(rt;
-        "{} answers, {} accepted, {} differ",
-        counts.answers, counts.accepted, counts.differ
-    )
 }

@@ -1,9 +1,8 @@
 -- Document 01, "Cookie".
-use Rattle.std.specs.Prelude.{ℕ, ◌+◌, ◌*◌, ◌^◌, List, [], ◌∷◌, length, take, drop, leb, eqb}
+use Rattle.std.specs.Prelude.{ℕ, ◌+◌, ◌*◌, ◌^◌, List, [], ◌∷◌, length, take, drop, leb, eqb, Result, Ok, Err}
 use Rattle.rules.specs.declared.StreamInfo.{StreamInfo}
+use Rattle.rules.specs.declared.Refusal.{Refusal}
 use Rattle.rules.specs.declared.Refusal.TheVariants.{Cookie}
-use Rattle.rules.specs.declared.CookieAnswer.{CookieAnswer}
-use Rattle.rules.specs.declared.CookieAnswer.TheVariants.{Info, Refused}
 use Rattle.rules.specs.Answers.{pick}
 
 -- bytes as a number, big-endian
@@ -47,9 +46,9 @@ info_of c = record {
 }
 
 -- 24 bytes at least, or cause 1
-unfoldable pub from24 : List ℕ → CookieAnswer → CookieAnswer
-from24 c answer = pick (leb 24 (length c)) answer (Refused Cookie)
+unfoldable pub from24 : List ℕ → Result StreamInfo Refusal → Result StreamInfo Refusal
+from24 c answer = pick (leb 24 (length c)) answer (Err Cookie)
 
 -- before and after the atoms are skipped
-unfoldable pub from_cookie : List ℕ → CookieAnswer
-from_cookie c = from24 c (from24 (past_atoms c) (Info (info_of (past_atoms c))))
+unfoldable pub from_cookie : List ℕ → Result StreamInfo Refusal
+from_cookie c = from24 c (from24 (past_atoms c) (Ok (info_of (past_atoms c))))

@@ -1,8 +1,6 @@
 -- Document 01, "Packet": elements one after the other, until END or a refusal.
-use Rattle.std.specs.Prelude.{ℕ, zero, suc, ◌+◌, ◌*◌, ◌/◌, Bool, true, List, [], ◌++◌, length, leb, eqb}
+use Rattle.std.specs.Prelude.{ℕ, zero, suc, ◌+◌, ◌*◌, ◌/◌, Bool, true, List, [], ◌++◌, length, leb, eqb, Option, None, Some}
 use Rattle.rules.specs.declared.StreamInfo.{StreamInfo}
-use Rattle.rules.specs.declared.Samples.{Samples}
-use Rattle.rules.specs.declared.Samples.TheVariants.{Open, Known}
 use Rattle.rules.specs.declared.Refusal.TheVariants.{Short, ManyChannels, Unsupported, Disagree, FewChannels, Fill}
 use Rattle.rules.specs.Answers.{Ans, bind, pick, Read, ◌>>=◌, ◌>>◌, give, refuse, check}
 use Rattle.rules.specs.Bits.{field, skip, skip_to_byte}
@@ -15,23 +13,23 @@ pub data Turn : Type 0 where
   end : ℕ → Turn
 
 -- the sample number that is known already is this one
-unfoldable pub agrees : Samples → ℕ → Bool
-agrees Open n = true
-agrees (Known k) n = eqb k n
+unfoldable pub agrees : Option ℕ → ℕ → Bool
+agrees None n = true
+agrees (Some k) n = eqb k n
 
 -- no sample number is known only where no element was heard
-abbrev pub number_known : Samples → ℕ
-number_known Open = 0
-number_known (Known n) = n
+abbrev pub number_known : Option ℕ → ℕ
+number_known None = 0
+number_known (Some n) = n
 
 -- the channels of an element before those that follow
 unfoldable pub followed : Sound → Sound → Sound
 followed first rest = record { samples = rest.samples; chans = first.chans ++ rest.chans; tracks = first.tracks ++ rest.tracks }
 
 -- what follows an element; what follows END is ignored
-unfoldable pub onward : ℕ → Samples → (ℕ → Samples → Read Sound) → Turn → Read Sound
+unfoldable pub onward : ℕ → Option ℕ → (ℕ → Option ℕ → Read Sound) → Turn → Read Sound
 onward so_far m go (audio sound) = do
-  rest ← go (so_far + length sound.chans) (Known sound.samples)
+  rest ← go (so_far + length sound.chans) (Some sound.samples)
   give (followed sound rest)
 onward so_far m go passed = go so_far m
 onward so_far m go (end n) = give (record { samples = n; chans = []; tracks = [] })
@@ -76,7 +74,7 @@ module _ (bits : List ℕ) where
 
   module _ (s : StreamInfo) where
     -- 5 right after the tag; 15 once the whole element is done
-    unfoldable pub sound_element : ℕ → Samples → ℕ → Read Turn
+    unfoldable pub sound_element : ℕ → Option ℕ → ℕ → Read Turn
     sound_element so_far m channels = do
       check (leb (so_far + channels) s.num_channels) ManyChannels
       sound ← audio_element bits s channels
@@ -84,14 +82,14 @@ module _ (bits : List ℕ) where
       give (audio sound)
 
     -- END: align, judge 17
-    unfoldable pub end_element : ℕ → Samples → Read Turn
+    unfoldable pub end_element : ℕ → Option ℕ → Read Turn
     end_element so_far m = do
       skip_to_byte bits
       check (leb s.num_channels so_far) FewChannels
       give (end (number_known m))
 
     -- all eight tags: SCE 0, CPE 1, CCE 2, LFE 3, DSE 4, PCE 5, FIL 6, END 7
-    unfoldable pub tagged : ℕ → Samples → ℕ → Read Turn
+    unfoldable pub tagged : ℕ → Option ℕ → ℕ → Read Turn
     tagged so_far m tag =
         pick (eqb tag 0) (sound_element so_far m 1)
         (pick (eqb tag 1) (sound_element so_far m 2)
@@ -103,13 +101,13 @@ module _ (bits : List ℕ) where
         (end_element so_far m)))))))
 
     -- one element, with the channels so far and the sample number
-    unfoldable pub turn : ℕ → Samples → Read Turn
+    unfoldable pub turn : ℕ → Option ℕ → Read Turn
     turn so_far m = do
       tag ← field bits 3
       tagged so_far m tag
 
     -- at most `most` elements; `enough_turns` of `laws` shows that the last line is never the packet's answer
-    unfoldable pub run : ℕ → ℕ → Samples → Read Sound
+    unfoldable pub run : ℕ → ℕ → Option ℕ → Read Sound
     run (suc most) so_far m = do
       t ← turn so_far m
       onward so_far m (run most) t
@@ -117,4 +115,4 @@ module _ (bits : List ℕ) where
 
     -- every element takes 3 bits at least
     unfoldable pub packet : Ans Sound
-    packet = run (length bits / 3 + 1) 0 Open 0
+    packet = run (length bits / 3 + 1) 0 None 0

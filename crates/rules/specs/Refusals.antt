@@ -1,13 +1,10 @@
 -- Document 01, "When the dock is told no": the number of each cause, and the number and count of each answer.
-use Rattle.std.specs.Prelude.{ℕ}
+use Rattle.std.specs.Prelude.{ℕ, Result, Ok, Err}
 use Rattle.rules.specs.declared.Refusal.{Refusal}
 use Rattle.rules.specs.declared.Refusal.TheVariants.{Cookie, Stream, Room, Short, ManyChannels, Unused, Shift, Partial, WideChannel, NoChannelBits, Parameters, Mode, Run, Unsupported, Disagree, ShiftedRaw, FewChannels, Fill, Settings, Passage, Bytes}
-use Rattle.rules.specs.declared.CookieAnswer.{CookieAnswer}
-use Rattle.rules.specs.declared.CookieAnswer.TheVariants as cookie
-use Rattle.rules.specs.declared.Answer.{Answer}
-use Rattle.rules.specs.declared.Answer.TheVariants as read
-use Rattle.rules.specs.declared.Packed.{Packed}
-use Rattle.rules.specs.declared.Packed.TheVariants as written
+use Rattle.rules.specs.declared.StreamInfo.{StreamInfo}
+use Rattle.rules.specs.declared.Decoded.{Decoded}
+use Rattle.rules.specs.declared.Refused.{Refused}
 
 -- the table
 abbrev pub number : Refusal → ℕ
@@ -55,24 +52,24 @@ number Passage = 20
 number Bytes = 21
 
 -- 0 is accepted; a refused cookie gives no StreamInfo
-abbrev pub cookie_number : CookieAnswer → ℕ
-cookie_number (cookie.Info s) = 0
-cookie_number (cookie.Refused x) = number x
+abbrev pub cookie_number : Result StreamInfo Refusal → ℕ
+cookie_number (Ok s) = 0
+cookie_number (Err x) = number x
 
 -- an accepted read counts samples x channels, refusals carry count 0
-abbrev pub read_number : Answer → ℕ
-read_number (read.Accepted n at) = 0
-read_number (read.Refused x at) = number x
+abbrev pub read_number : Result Decoded Refused → ℕ
+read_number (Ok d) = 0
+read_number (Err r) = number r.refusal
 
-abbrev pub read_count : Answer → ℕ
-read_count (read.Accepted n at) = n
-read_count (read.Refused x at) = 0
+abbrev pub read_count : Result Decoded Refused → ℕ
+read_count (Ok d) = d.count
+read_count (Err r) = 0
 
 -- an accepted write counts the packet's bytes
-abbrev pub packed_number : Packed → ℕ
-packed_number (written.Accepted n) = 0
-packed_number (written.Refused x) = number x
+abbrev pub packed_number : Result ℕ Refusal → ℕ
+packed_number (Ok n) = 0
+packed_number (Err x) = number x
 
-abbrev pub packed_count : Packed → ℕ
-packed_count (written.Accepted n) = n
-packed_count (written.Refused x) = 0
+abbrev pub packed_count : Result ℕ Refusal → ℕ
+packed_count (Ok n) = n
+packed_count (Err x) = 0

@@ -1,10 +1,9 @@
 -- Document 01, "The added writer": its ranges, the one packet that the rules name, its refusals, and what the buffers become.
-use Rattle.std.specs.Prelude.{ℕ, zero, suc, ◌+◌, ◌-◌, ◌*◌, ◌/◌, ◌%◌, ◌^◌, min, Bool, true, false, ◌&&◌, ◌||◌, List, [], ◌∷◌, ◌++◌, map, reverse, length, take, replicate, leb, ltb, eqb, ℤ, pos, negsuc}
+use Rattle.std.specs.Prelude.{ℕ, zero, suc, ◌+◌, ◌-◌, ◌*◌, ◌/◌, ◌%◌, ◌^◌, min, Bool, true, false, ◌&&◌, ◌||◌, List, [], ◌∷◌, ◌++◌, map, reverse, length, take, replicate, leb, ltb, eqb, ℤ, pos, negsuc, Result, Ok, Err}
 use Rattle.rules.specs.declared.StreamInfo.{StreamInfo}
 use Rattle.rules.specs.declared.ChannelSettings.{ChannelSettings}
 use Rattle.rules.specs.declared.PackingSettings.{PackingSettings}
-use Rattle.rules.specs.declared.Packed.{Packed}
-use Rattle.rules.specs.declared.Packed.TheVariants.{Accepted, Refused}
+use Rattle.rules.specs.declared.Refusal.{Refusal}
 use Rattle.rules.specs.declared.Refusal.TheVariants.{Stream, Room, Settings, Passage, Bytes}
 use Rattle.rules.specs.Answers.{pick}
 use Rattle.rules.specs.Bits.{digits, padded}
@@ -160,19 +159,19 @@ module _ (s : StreamInfo) (t : PackingSettings) (passage : List ℤ) where
   packet_bytes = padded packet_bits
 
   -- ---- refusals in order: 2, a stream no reader would accept; 3, scratch only; 19; 20; 21
-  unfoldable pub packed : ℕ → ℕ → Packed
+  unfoldable pub packed : ℕ → ℕ → Result ℕ Refusal
   packed bytesLength scratchLength =
       pick (accepted i32_output s) (pick (leb (scratch_places s) scratchLength) (pick (in_range s t) (pick (passage_fits s t passage)
-      (pick (leb (length packet_bytes) bytesLength) (Accepted (length packet_bytes)) (Refused Bytes))
-      (Refused Passage)) (Refused Settings)) (Refused Room)) (Refused Stream)
+      (pick (leb (length packet_bytes) bytesLength) (Ok (length packet_bytes)) (Err Bytes))
+      (Err Passage)) (Err Settings)) (Err Room)) (Err Stream)
 
   -- bytes are touched only on acceptance, and then only the packet's own
   unfoldable pub bytes_after : List ℕ → ℕ → List ℕ
   bytes_after bytes scratchLength = kept (packed (length bytes) scratchLength)
     where
-      kept : Packed → List ℕ
-      kept (Accepted n) = laid packet_bytes bytes
-      kept (Refused x) = bytes
+      kept : Result ℕ Refusal → List ℕ
+      kept (Ok n) = laid packet_bytes bytes
+      kept (Err x) = bytes
 
   -- past 3 the first 2 x frame length places end as zero; 2 and 3 change nothing
   unfoldable pub pack_scratch_after : List ℤ → List ℤ

@@ -5,7 +5,7 @@ ghost use Rattle.std.specs.Prelude.{◌≡◌};
 ghost use Rattle.rules.specs.Refusals.{number};
 
 // The fields of a stream, in the cookie's order.
-#[derive(Clone, Copy)]
+#[derive(Clone, Copy, Debug, PartialEq, Eq)]
 pub struct StreamInfo {
     pub frame_length: u32,
     pub compatible_version: u8,
@@ -21,14 +21,14 @@ pub struct StreamInfo {
 }
 
 // A byte of the packet and a bit in it. Only the last three bits of `bit` count, so every value is a place.
-#[derive(Clone, Copy)]
+#[derive(Clone, Copy, Debug, PartialEq, Eq)]
 pub struct Place {
     pub byte: usize,
     pub bit: u32,
 }
 
 // Why a dock is told no: a variant for each number of the table, in its order.
-#[derive(Clone, Copy)]
+#[derive(Clone, Copy, Debug, PartialEq, Eq)]
 pub enum Refusal {
     Cookie,
     Stream,
@@ -53,35 +53,21 @@ pub enum Refusal {
     Bytes,
 }
 
-// A cookie's answer: a refused cookie gives no StreamInfo.
-#[derive(Clone, Copy)]
-pub enum CookieAnswer {
-    Info(StreamInfo),
-    Refused(Refusal),
+// What an accepted packet holds: how many samples, and the place after its end.
+#[derive(Clone, Copy, Debug, PartialEq, Eq)]
+pub struct Decoded {
+    pub count: usize,
+    pub at: Place,
 }
 
-// The reader's answer: how many samples, or why not, and the place.
-#[derive(Clone, Copy)]
-pub enum Answer {
-    Accepted(usize, Place),
-    Refused(Refusal, Place),
+// Why a packet is refused, and the place where that was judged.
+#[derive(Clone, Copy, Debug, PartialEq, Eq)]
+pub struct Refused {
+    pub refusal: Refusal,
+    pub at: Place,
 }
 
-// The writer's answer: the packet's bytes, or why not.
-#[derive(Clone, Copy)]
-pub enum Packed {
-    Accepted(usize),
-    Refused(Refusal),
-}
-
-// The sample number that a packet's elements agree on, once there is one.
-#[derive(Clone, Copy)]
-pub enum Samples {
-    Open,
-    Known(u32),
-}
-
-// The writer's settings for one channel; coefficients are newest sample's first, as in the packet.
+// The writer's settings for one channel; coefficients are newest sample's first, as in the packet. Thirty places, of which `order` count: there is no heap.
 #[derive(Clone, Copy)]
 pub struct ChannelSettings {
     pub pb_factor: u32,
@@ -90,7 +76,7 @@ pub struct ChannelSettings {
     pub coefs: [i16; 30],
 }
 
-// With one channel `second` is not there: it is neither judged nor used.
+// With one channel `second` is neither judged nor used. No Option: the entry takes a second channel of a mono stream, and `settings_used` passes it by.
 #[derive(Clone, Copy)]
 pub struct PackingSettings {
     pub mix_bits: u32,
@@ -100,30 +86,32 @@ pub struct PackingSettings {
 }
 
 // The number of a refusal in document 01.
-pub fn number_of(refusal: Refusal) -> u32
-    ensures { result ≡ number refusal }
-{
-    match refusal {
-        Refusal::Cookie => 1,
-        Refusal::Stream => 2,
-        Refusal::Room => 3,
-        Refusal::Short => 4,
-        Refusal::ManyChannels => 5,
-        Refusal::Unused => 6,
-        Refusal::Shift => 7,
-        Refusal::Partial => 8,
-        Refusal::WideChannel => 9,
-        Refusal::NoChannelBits => 10,
-        Refusal::Parameters => 11,
-        Refusal::Mode => 12,
-        Refusal::Run => 13,
-        Refusal::Unsupported => 14,
-        Refusal::Disagree => 15,
-        Refusal::ShiftedRaw => 16,
-        Refusal::FewChannels => 17,
-        Refusal::Fill => 18,
-        Refusal::Settings => 19,
-        Refusal::Passage => 20,
-        Refusal::Bytes => 21,
+impl From<Refusal> for u32 {
+    ghost from_gives = { λ refusal n. n ≡ number refusal };
+
+    fn from(refusal: Refusal) -> u32 {
+        match refusal {
+            Refusal::Cookie => 1,
+            Refusal::Stream => 2,
+            Refusal::Room => 3,
+            Refusal::Short => 4,
+            Refusal::ManyChannels => 5,
+            Refusal::Unused => 6,
+            Refusal::Shift => 7,
+            Refusal::Partial => 8,
+            Refusal::WideChannel => 9,
+            Refusal::NoChannelBits => 10,
+            Refusal::Parameters => 11,
+            Refusal::Mode => 12,
+            Refusal::Run => 13,
+            Refusal::Unsupported => 14,
+            Refusal::Disagree => 15,
+            Refusal::ShiftedRaw => 16,
+            Refusal::FewChannels => 17,
+            Refusal::Fill => 18,
+            Refusal::Settings => 19,
+            Refusal::Passage => 20,
+            Refusal::Bytes => 21,
+        }
     }
 }

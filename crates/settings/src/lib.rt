@@ -20,9 +20,7 @@ fn coefs_of(places: &[i16]) -> [i16; 30]
     ensures { result ≡ take 30 places.now }
 {
     let mut coefs = [0i16; 30];
-    for i in 0..30 {
-        coefs[i] = places[i];
-    }
+    coefs.copy_from_slice(&places[..30]);
     coefs
 }
 
@@ -30,24 +28,22 @@ fn channel_of(places: &[i16]) -> ChannelSettings
     requires { 33 ≤ length places.now }
     ensures { result ≡ channel_of places.now }
 {
-    let coefs = coefs_of(&places[3..]);
     ChannelSettings {
         pb_factor: field_at(places, 0),
         quant: field_at(places, 1),
         order: field_at(places, 2),
-        coefs: coefs,
+        coefs: coefs_of(&places[3..]),
     }
 }
 
 fn no_channel() -> ChannelSettings
     ensures { result ≡ no_channel }
 {
-    let coefs = [0i16; 30];
     ChannelSettings {
         pb_factor: 0,
         quant: 0,
         order: 0,
-        coefs: coefs,
+        coefs: [0; 30],
     }
 }
 
@@ -55,12 +51,11 @@ fn no_channel() -> ChannelSettings
 fn unfit_settings() -> PackingSettings
     ensures { result ≡ unfit }
 {
-    let none = no_channel();
     PackingSettings {
         mix_bits: 8,
         mix_res: 0,
-        first: none,
-        second: none,
+        first: no_channel(),
+        second: no_channel(),
     }
 }
 
@@ -68,12 +63,11 @@ fn with_second(flat: &[i16], second: ChannelSettings) -> PackingSettings
     requires { 35 ≤ length flat.now }
     ensures { result ≡ with_second flat.now second }
 {
-    let first = channel_of(&flat[2..]);
     PackingSettings {
         mix_bits: field_at(flat, 0),
         mix_res: field_at(flat, 1),
-        first: first,
-        second: second,
+        first: channel_of(&flat[2..]),
+        second,
     }
 }
 

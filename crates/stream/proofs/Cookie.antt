@@ -11,29 +11,15 @@ use lib.Pow.{pow-add}
 use lib.Dec.{eqb}
 use borrow.Author.Tests.{le-leb, lt-leb}
 use Rattle.rules.specs.declared.Refusal.TheVariants.{Cookie}
-use Rattle.rules.specs.declared.CookieAnswer.{CookieAnswer}
-use Rattle.rules.specs.declared.CookieAnswer.TheVariants.{Refused}
+use Rattle.std.specs.Prelude.{Result, Err}
+use Rattle.rules.specs.declared.StreamInfo.{StreamInfo}
+use Rattle.rules.specs.declared.Refusal.{Refusal}
 use Rattle.rules.specs.Answers.{pick}
 use Rattle.rules.specs.Cookie.{big_endian, bytes_at, past_atom, from24}
-
-big_endian_append : (xs ys : List ℕ) → big_endian (xs ++ ys) ≡ big_endian xs * 256 ^ length ys + big_endian ys
-unfolding big_endian
-big_endian_append [] ys = omega arith
-big_endian_append (x ∷ xs) ys =
-    rw (length-append xs ys, big_endian_append xs ys, pow-add, ← mul_assoc, add-mul, add_assoc)
-
--- some bytes and then some more, wherever they start
-pub bytes_add : (c : List ℕ) (from n m : ℕ) → from + n + m ≤ length c → bytes_at c from (n + m) ≡ bytes_at c from n * 256 ^ m + bytes_at c (from + n) m
-bytes_add c from n m h =
-    let l : length (take m (drop (from + n) c)) ≡ m = length-take-le m (drop (from + n) c) (simp length-drop (omega arith)) in
-    rw (take-add, drop-drop, big_endian_append, l)
 
 pub byte_at : (c : List ℕ) (from : ℕ) → from < length c → bytes_at c from 1 ≡ get_or c from 0
 unfolding big_endian
 byte_at c from h = rw (drop-cons c from 0) (omega arith)
-
-pub bytes_whole : (c : List ℕ) (n : ℕ) → length c ≡ n → bytes_at c 0 n ≡ big_endian c
-bytes_whole c n e = ap big_endian (take_all n c (omega arith))
 
 -- 12 bytes go at most
 pub past_atom_length : (name : ℕ) (c : List ℕ) → length c ≤ length (past_atom name c) + 12
@@ -44,10 +30,10 @@ past_atom_length name c = step (eqb (bytes_at c 4 4) name)
     step true = simp length-drop (omega arith)
     step false = omega arith
 
-pub from24_short : (c : List ℕ) (answer : CookieAnswer) → length c < 24 → from24 c answer ≡ Refused Cookie
+pub from24_short : (c : List ℕ) (answer : Result StreamInfo Refusal) → length c < 24 → from24 c answer ≡ Err Cookie
 unfolding from24
 from24_short c answer h = rw lt-leb
 
-pub from24_long : (c : List ℕ) (answer : CookieAnswer) → 24 ≤ length c → from24 c answer ≡ answer
+pub from24_long : (c : List ℕ) (answer : Result StreamInfo Refusal) → 24 ≤ length c → from24 c answer ≡ answer
 unfolding from24
 from24_long c answer h = rw le-leb

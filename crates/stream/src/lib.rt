@@ -1,26 +1,74 @@
-// Which streams are accepted, the cookie, and the five getters.
+// Which streams are accepted, the kinds of output, the cookie, and the five getters.
 #![tactic(auto)]
 
-ghost use Rattle.std.specs.Prelude.{◌≡◌, ◌≤◌, length};
-ghost use Rattle.rules.specs.Stream.{i16_output, i32_output, max_samples_per_packet};
+ghost use Rattle.std.specs.Prelude.{◌≡◌, ◌≤◌, ℕ, true, length};
+ghost use Rattle.rules.specs.Stream.{Width, i16_output, i32_output, accepted, max_samples_per_packet};
 ghost use Rattle.rules.specs.Cookie.{big_endian, past_atom, info_of, from_cookie};
 ghost use Rattle.stream.specs.Accepts.{Accepts};
+ghost use Rattle.stream.specs.Depths.{depth_i16, depth_i32};
 
-use rules::{CookieAnswer, Refusal, StreamInfo};
+use rules::{Refusal, StreamInfo};
+use words::{low_i16, shift_up};
+
+// ---- The kinds of output: `Sample` of dec.rs.
+
+// What a place of the output can be, by the depths that it takes and what it keeps of a sample.
+pub trait Sample: Copy {
+    ghost output: { Width Self };
+
+    fn silence() -> Self
+        ensures { result ≡ output.silence };
+
+    fn takes(depth: u8) -> bool
+        ensures { result ≡ output.takes depth };
+
+    fn keep(sample: i32, depth: u8) -> Self
+        requires le_depth { 1 ≤ depth }
+        requires depth_bound { depth ≤ 32 }
+        ensures { result ≡ output.keep depth sample };
+
+    ghost depths: { (depth : ℕ) → output.takes depth ≡ true → (16 ≤ depth) × (depth ≤ 32) };
+}
+
+// The low 16 bits.
+impl Sample for i16 {
+    ghost output = { i16_output };
+
+    ghost depths = { depth_i16 };
+
+    fn silence() -> i16 {
+        0
+    }
+
+    fn takes(depth: u8) -> bool {
+        depth == 16
+    }
+
+    fn keep(sample: i32, _depth: u8) -> i16 {
+        low_i16(sample as i64)
+    }
+}
+
+// Shifted to the top of 32 bits.
+impl Sample for i32 {
+    ghost output = { i32_output };
+
+    ghost depths = { depth_i32 };
+
+    fn silence() -> i32 {
+        0
+    }
+
+    fn takes(depth: u8) -> bool {
+        matches!(depth, 16 | 20 | 24 | 32)
+    }
+
+    fn keep(sample: i32, depth: u8) -> i32 {
+        shift_up(sample, 32 - depth as u32)
+    }
+}
 
 // ---- Which streams are accepted: refusal 2, for the reader and the writer alike.
-
-pub fn takes_i16(depth: u8) -> bool
-    ensures { result ≡ i16_output.takes depth }
-{
-    depth == 16
-}
-
-pub fn takes_i32(depth: u8) -> bool
-    ensures { result ≡ i32_output.takes depth }
-{
-    (depth == 16) | ((depth == 20) | ((depth == 24) | (depth == 32)))
-}
 
 // Every field but the depth, of which each kind of output has its own say.
 pub fn accepted(s: StreamInfo, taken: bool) -> bool
@@ -35,6 +83,12 @@ pub fn accepted(s: StreamInfo, taken: bool) -> bool
         & (s.kb <= 31)
 }
 
+pub fn accepts<S: Sample>(s: StreamInfo) -> bool
+    ensures { result ≡ accepted S.output s }
+{
+    accepted(s, S::takes(s.bit_depth))
+}
+
 // ---- The cookie and the getters of a stream: lib.rs.
 
 // `frma` and `alac`, the names of the atoms that older files have before the fields.
@@ -42,18 +96,18 @@ const FRMA: u32 = 0x66726D61;
 
 const ALAC: u32 = 0x616C6163;
 
-pub fn from_cookie(cookie: &[u8]) -> CookieAnswer
+pub fn from_cookie(cookie: &[u8]) -> Result<StreamInfo, Refusal>
     ensures { result ≡ from_cookie cookie.now }
 {
     if cookie.len() < 24 {
-        return CookieAnswer::Refused(Refusal::Cookie);
+        return Err(Refusal::Cookie);
     }
     let inner = past_atom(cookie, FRMA);
     let fields = past_atom(inner, ALAC);
     if fields.len() < 24 {
-        return CookieAnswer::Refused(Refusal::Cookie);
+        return Err(Refusal::Cookie);
     }
-    CookieAnswer::Info(info_of(fields))
+    Ok(info_of(fields))
 }
 
 pub fn sample_rate(info: StreamInfo) -> u32
@@ -123,12 +177,12 @@ fn read_be_u16(buf: &[u8]) -> u16
     requires { length buf.now ≡ 2 }
     ensures { result ≡ big_endian buf.now }
 {
-    (buf[0] as u16) * 0x100 + buf[1] as u16
+    u16::from_be_bytes([buf[0], buf[1]])
 }
 
 fn read_be_u32(buf: &[u8]) -> u32
     requires { length buf.now ≡ 4 }
     ensures { result ≡ big_endian buf.now }
 {
-    (read_be_u16(&buf[0..2]) as u32) * 0x1_0000 + read_be_u16(&buf[2..4]) as u32
+    u32::from_be_bytes([buf[0], buf[1], buf[2], buf[3]])
 }

@@ -1,6 +1,6 @@
 -- The writer's settings as text: decimal numbers that fit 16 bits, between blanks; '#' begins a comment that ends with its line.
 -- The text is read byte by byte, and is wrong at the first byte that cannot stand where it stands.
-use Rattle.std.specs.Prelude.{ℕ, ◌+◌, ◌-◌, ◌*◌, ◌≤◌, ◌≡◌, Bool, true, false, ◌||◌, List, [], ◌∷◌, ◌++◌, length, set, ltb, leb, eqb, ℤ, pos, ◌-ℤ◌}
+use Rattle.std.specs.Prelude.{ℕ, ◌+◌, ◌-◌, ◌*◌, ◌≤◌, ◌≡◌, Bool, true, false, ◌||◌, List, [], ◌∷◌, ◌++◌, length, set, ltb, leb, eqb, ℤ, pos, ◌-ℤ◌, Option, None, Some, Result, Ok, Err}
 use Rattle.rules.specs.Answers.{pick}
 use Rattle.rules.specs.Buffers.{laid}
 use Rattle.rules.specs.Words.{wrap}
@@ -9,11 +9,10 @@ use Rattle.text.specs.declared.Kind.TheVariants.{Digit, Dash, Blank, Line, Hash,
 use Rattle.text.specs.declared.Mode.{Mode}
 use Rattle.text.specs.declared.Mode.TheVariants.{Between, Comment, Signed, Digits}
 use Rattle.text.specs.declared.Turn.{Turn}
-use Rattle.text.specs.declared.Turn.TheVariants.{On, Stores, Wrong}
-use Rattle.text.specs.declared.Took.{Took}
-use Rattle.text.specs.declared.Took.TheVariants.{More, Bad, Full}
-use Rattle.text.specs.declared.Numbers.{Numbers}
-use Rattle.text.specs.declared.Numbers.TheVariants as answer
+use Rattle.text.specs.declared.Turn.TheVariants.{On, Stores}
+use Rattle.text.specs.declared.State.{State}
+use Rattle.text.specs.declared.TextError.{TextError}
+use Rattle.text.specs.declared.TextError.TheVariants.{Wrong, TooMany}
 
 -- ---- a byte
 
@@ -39,46 +38,46 @@ most_of true = 32768
 most_of false = 32767
 
 -- a digit more, while the number fits 16 bits
-abbrev pub grown_to : Bool → ℕ → ℕ → Turn
-grown_to below size digit = pick (leb (size * 10 + digit) (most_of below)) (On (Digits below (size * 10 + digit))) Wrong
+abbrev pub grown_to : Bool → ℕ → ℕ → Option Turn
+grown_to below size digit = pick (leb (size * 10 + digit) (most_of below)) (Some (On (Digits below (size * 10 + digit)))) None
 
 -- between numbers
-abbrev pub between_of : Kind → Turn
+abbrev pub between_of : Kind → Option Turn
 between_of (Digit d) = grown_to false 0 d
-between_of Dash = On Signed
-between_of Blank = On Between
-between_of Line = On Between
-between_of Hash = On Comment
-between_of Other = Wrong
+between_of Dash = Some (On Signed)
+between_of Blank = Some (On Between)
+between_of Line = Some (On Between)
+between_of Hash = Some (On Comment)
+between_of Other = None
 
 -- a comment ends with its line
-abbrev pub comment_of : Kind → Turn
-comment_of (Digit d) = On Comment
-comment_of Dash = On Comment
-comment_of Blank = On Comment
-comment_of Line = On Between
-comment_of Hash = On Comment
-comment_of Other = On Comment
+abbrev pub comment_of : Kind → Option Turn
+comment_of (Digit d) = Some (On Comment)
+comment_of Dash = Some (On Comment)
+comment_of Blank = Some (On Comment)
+comment_of Line = Some (On Between)
+comment_of Hash = Some (On Comment)
+comment_of Other = Some (On Comment)
 
 -- after '-' comes a digit
-abbrev pub signed_of : Kind → Turn
+abbrev pub signed_of : Kind → Option Turn
 signed_of (Digit d) = grown_to true 0 d
-signed_of Dash = Wrong
-signed_of Blank = Wrong
-signed_of Line = Wrong
-signed_of Hash = Wrong
-signed_of Other = Wrong
+signed_of Dash = None
+signed_of Blank = None
+signed_of Line = None
+signed_of Hash = None
+signed_of Other = None
 
 -- a number ends before a blank, a comment, or the end of the line
-abbrev pub digits_of : Bool → ℕ → Kind → Turn
+abbrev pub digits_of : Bool → ℕ → Kind → Option Turn
 digits_of below size (Digit d) = grown_to below size d
-digits_of below size Dash = Wrong
-digits_of below size Blank = Stores Between
-digits_of below size Line = Stores Between
-digits_of below size Hash = Stores Comment
-digits_of below size Other = Wrong
+digits_of below size Dash = None
+digits_of below size Blank = Some (Stores Between)
+digits_of below size Line = Some (Stores Between)
+digits_of below size Hash = Some (Stores Comment)
+digits_of below size Other = None
 
-unfoldable pub turn_of : Mode → Kind → Turn
+unfoldable pub turn_of : Mode → Kind → Option Turn
 turn_of Between kind = between_of kind
 turn_of Comment kind = comment_of kind
 turn_of Signed kind = signed_of kind
@@ -105,10 +104,10 @@ pub data Read : Type 0 where
   full : List ℤ → Read
 
 -- a byte at place `at`, after the numbers xs, and then the rest
-unfoldable pub onward : Turn → Mode → ℕ → List ℤ → (Mode → ℕ → List ℤ → Read) → Read
-onward (On next) mode at xs rest = rest next (at + 1) xs
-onward (Stores next) mode at xs rest = pick (ltb (length xs) 68) (rest next (at + 1) (xs ++ (value_of mode ∷ []))) (full xs)
-onward Wrong mode at xs rest = wrong at xs
+unfoldable pub onward : Option Turn → Mode → ℕ → List ℤ → (Mode → ℕ → List ℤ → Read) → Read
+onward (Some (On next)) mode at xs rest = rest next (at + 1) xs
+onward (Some (Stores next)) mode at xs rest = pick (ltb (length xs) 68) (rest next (at + 1) (xs ++ (value_of mode ∷ []))) (full xs)
+onward None mode at xs rest = wrong at xs
 
 -- the end of the text ends its last line
 unfoldable pub read_on : List ℕ → Mode → ℕ → List ℤ → Read
@@ -118,10 +117,10 @@ read_on (b ∷ bs) mode at xs = onward (turn_of mode (kind_of b)) mode at xs (re
 abbrev pub numbers_of : List ℕ → Read
 numbers_of text = read_on text Between 0 []
 
-abbrev pub answer_of : Read → Numbers
-answer_of (whole xs) = answer.Many (length xs)
-answer_of (wrong at xs) = answer.Wrong at
-answer_of (full xs) = answer.TooMany
+abbrev pub answer_of : Read → Result ℕ TextError
+answer_of (whole xs) = Ok (length xs)
+answer_of (wrong at xs) = Err (Wrong at)
+answer_of (full xs) = Err TooMany
 
 abbrev pub found_of : Read → List ℤ
 found_of (whole xs) = xs
@@ -129,23 +128,23 @@ found_of (wrong at xs) = xs
 found_of (full xs) = xs
 
 -- the answer, and every place: the numbers that were read stand first, later places stay
-pub record Tells (text : List ℕ) (was is : List ℤ) (r : Numbers) : Type 0 where
+pub record Tells (text : List ℕ) (was is : List ℤ) (r : Result ℕ TextError) : Type 0 where
   pub told : r ≡ answer_of (numbers_of text)
   pub places : is ≡ laid (found_of (numbers_of text)) was
   pub most : length (found_of (numbers_of text)) ≤ 68
 
 -- ---- one turn carried out in the places
 
-abbrev pub took_of : Turn → ℕ → Took
-took_of (On next) count = More next count
-took_of (Stores next) count = pick (ltb count 68) (More next (count + 1)) Full
-took_of Wrong count = Bad
+abbrev pub took_of : Option Turn → State → ℕ → Result State TextError
+took_of (Some (On next)) st at = Ok (record { mode = next; count = st.count })
+took_of (Some (Stores next)) st at = pick (ltb st.count 68) (Ok (record { mode = next; count = st.count + 1 })) (Err TooMany)
+took_of None st at = Err (Wrong at)
 
-abbrev pub places_of : Turn → Mode → ℕ → List ℤ → List ℤ
-places_of (On next) mode count was = was
-places_of (Stores next) mode count was = pick (ltb count 68) (set was count (value_of mode)) was
-places_of Wrong mode count was = was
+abbrev pub places_of : Option Turn → State → List ℤ → List ℤ
+places_of (Some (On next)) st was = was
+places_of (Some (Stores next)) st was = pick (ltb st.count 68) (set was st.count (value_of st.mode)) was
+places_of None st was = was
 
-pub record Takes (turn : Turn) (mode : Mode) (count : ℕ) (was is : List ℤ) (r : Took) : Type 0 where
-  pub does : r ≡ took_of turn count
-  pub puts : is ≡ places_of turn mode count was
+pub record Takes (turn : Option Turn) (st : State) (at : ℕ) (was is : List ℤ) (r : Result State TextError) : Type 0 where
+  pub does : r ≡ took_of turn st at
+  pub puts : is ≡ places_of turn st was

@@ -26,26 +26,23 @@ pub enum Mode {
     Digits(bool, u32),
 }
 
-// What a byte does: the reader goes on, or a number has ended before it, or the byte cannot stand there.
+// What a byte that may stand there does: the reader goes on, or a number has ended before it.
 #[derive(Clone, Copy)]
 pub enum Turn {
     On(Mode),
     Stores(Mode),
-    Wrong,
 }
 
-// A turn carried out: how many numbers there are now, or why the reader stops.
+// Where the reader stands, and how many numbers it has.
 #[derive(Clone, Copy)]
-pub enum Took {
-    More(Mode, usize),
-    Bad,
-    Full,
+pub struct State {
+    pub mode: Mode,
+    pub count: usize,
 }
 
-// How many numbers the text holds, or the byte at which it is wrong, or that there is no room for all.
+// Why a text is no list of numbers: the byte at which it is wrong, or more numbers than there is room for.
 #[derive(Clone, Copy)]
-pub enum Numbers {
-    Many(usize),
+pub enum TextError {
     Wrong(usize),
     TooMany,
 }
@@ -88,70 +85,70 @@ fn most_of(below: bool) -> u64
 }
 
 // One digit more, while the number fits 16 bits.
-fn grown(below: bool, size: u32, digit: u32) -> Turn
+fn grown(below: bool, size: u32, digit: u32) -> Option<Turn>
     ensures { result ≡ grown_to below size digit }
 {
     let most = most_of(below);
     let next = size as u64 * 10 + digit as u64;
     if most < next {
-        return Turn::Wrong;
+        return None;
     }
-    Turn::On(Mode::Digits(below, next as u32))
+    Some(Turn::On(Mode::Digits(below, next as u32)))
 }
 
-fn between(kind: Kind) -> Turn
+fn between(kind: Kind) -> Option<Turn>
     ensures { result ≡ between_of kind }
 {
     match kind {
         Kind::Digit(d) => grown(false, 0, d),
-        Kind::Dash => Turn::On(Mode::Signed),
-        Kind::Blank => Turn::On(Mode::Between),
-        Kind::Line => Turn::On(Mode::Between),
-        Kind::Hash => Turn::On(Mode::Comment),
-        Kind::Other => Turn::Wrong,
+        Kind::Dash => Some(Turn::On(Mode::Signed)),
+        Kind::Blank => Some(Turn::On(Mode::Between)),
+        Kind::Line => Some(Turn::On(Mode::Between)),
+        Kind::Hash => Some(Turn::On(Mode::Comment)),
+        Kind::Other => None,
     }
 }
 
-fn comment(kind: Kind) -> Turn
+fn comment(kind: Kind) -> Option<Turn>
     ensures { result ≡ comment_of kind }
 {
     match kind {
-        Kind::Digit(_) => Turn::On(Mode::Comment),
-        Kind::Dash => Turn::On(Mode::Comment),
-        Kind::Blank => Turn::On(Mode::Comment),
-        Kind::Line => Turn::On(Mode::Between),
-        Kind::Hash => Turn::On(Mode::Comment),
-        Kind::Other => Turn::On(Mode::Comment),
+        Kind::Digit(_) => Some(Turn::On(Mode::Comment)),
+        Kind::Dash => Some(Turn::On(Mode::Comment)),
+        Kind::Blank => Some(Turn::On(Mode::Comment)),
+        Kind::Line => Some(Turn::On(Mode::Between)),
+        Kind::Hash => Some(Turn::On(Mode::Comment)),
+        Kind::Other => Some(Turn::On(Mode::Comment)),
     }
 }
 
-fn signed(kind: Kind) -> Turn
+fn signed(kind: Kind) -> Option<Turn>
     ensures { result ≡ signed_of kind }
 {
     match kind {
         Kind::Digit(d) => grown(true, 0, d),
-        Kind::Dash => Turn::Wrong,
-        Kind::Blank => Turn::Wrong,
-        Kind::Line => Turn::Wrong,
-        Kind::Hash => Turn::Wrong,
-        Kind::Other => Turn::Wrong,
+        Kind::Dash => None,
+        Kind::Blank => None,
+        Kind::Line => None,
+        Kind::Hash => None,
+        Kind::Other => None,
     }
 }
 
-fn digits(below: bool, size: u32, kind: Kind) -> Turn
+fn digits(below: bool, size: u32, kind: Kind) -> Option<Turn>
     ensures { result ≡ digits_of below size kind }
 {
     match kind {
         Kind::Digit(d) => grown(below, size, d),
-        Kind::Dash => Turn::Wrong,
-        Kind::Blank => Turn::Stores(Mode::Between),
-        Kind::Line => Turn::Stores(Mode::Between),
-        Kind::Hash => Turn::Stores(Mode::Comment),
-        Kind::Other => Turn::Wrong,
+        Kind::Dash => None,
+        Kind::Blank => Some(Turn::Stores(Mode::Between)),
+        Kind::Line => Some(Turn::Stores(Mode::Between)),
+        Kind::Hash => Some(Turn::Stores(Mode::Comment)),
+        Kind::Other => None,
     }
 }
 
-fn turn_of(mode: Mode, kind: Kind) -> Turn
+fn turn_of(mode: Mode, kind: Kind) -> Option<Turn>
     ensures { result ≡ turn_of mode kind }
 {
     match mode {
@@ -183,46 +180,46 @@ fn value_of(mode: Mode) -> i16
     }
 }
 
-fn carry(turn: Turn, mode: Mode, numbers: &mut [i16; 68], count: usize) -> Took
-    ensures { Takes turn mode count numbers.old numbers.new result }
+// The turn at byte `at`, carried out.
+fn carry(
+    turn: Option<Turn>,
+    state: State,
+    numbers: &mut [i16; 68],
+    at: usize,
+) -> Result<State, TextError>
+    ensures { Takes turn state at numbers.old numbers.new result }
 {
     match turn {
-        Turn::On(next) => Took::More(next, count),
-        Turn::Wrong => Took::Bad,
-        Turn::Stores(next) => {
-            if count < 68 {
-                let value = value_of(mode);
-                numbers[count] = value;
-                return Took::More(next, count + 1);
+        None => Err(TextError::Wrong(at)),
+        Some(Turn::On(mode)) => Ok(State {
+            mode,
+            count: state.count,
+        }),
+        Some(Turn::Stores(mode)) => {
+            if state.count < 68 {
+                numbers[state.count] = value_of(state.mode);
+                return Ok(State {
+                    mode,
+                    count: state.count + 1,
+                });
             }
-            Took::Full
+            Err(TextError::TooMany)
         }
     }
 }
 
-// The numbers of a text, in its order. The end of the text ends its last line.
-pub fn numbers_of(text: &[u8], numbers: &mut [i16; 68]) -> Numbers
+// The numbers of a text, in its order: how many there are, in places that are lent, since there is no heap. The end of the text ends its last line.
+pub fn numbers_of(text: &[u8], numbers: &mut [i16; 68]) -> Result<usize, TextError>
     ensures { Tells text.now numbers.old numbers.new result }
 {
-    let mut mode = Mode::Between;
-    let mut count = 0;
-    let mut at = 0;
-    while at < text.len() {
-        let step = carry(turn_of(mode, kind_of(text[at])), mode, numbers, count);
-        match step {
-            Took::More(next, more) => {
-                mode = next;
-                count = more;
-            }
-            Took::Bad => return Numbers::Wrong(at),
-            Took::Full => return Numbers::TooMany,
-        }
-        at += 1;
+    let mut state = State {
+        mode: Mode::Between,
+        count: 0,
+    };
+    for at in 0..text.len() {
+        let turn = turn_of(state.mode, kind_of(text[at]));
+        state = carry(turn, state, numbers, at)?;
     }
-    let last = carry(turn_of(mode, Kind::Line), mode, numbers, count);
-    match last {
-        Took::More(_, more) => Numbers::Many(more),
-        Took::Bad => Numbers::Wrong(at),
-        Took::Full => Numbers::TooMany,
-    }
+    let last = carry(turn_of(state.mode, Kind::Line), state, numbers, text.len())?;
+    Ok(last.count)
 }

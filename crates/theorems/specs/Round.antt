@@ -1,6 +1,6 @@
 -- Reading undoes writing: of an accepted packet, with anything after it, every answer that the reader's promise permits is the passage.
 use Prim.Native.Nat.{ℕ, zero, suc, ◌*◌, ◌≤◌}
-use Rattle.std.specs.Prelude.{◌≡◌, take}
+use Rattle.std.specs.Prelude.{◌≡◌, take, Result, Ok}
 use Rattle.std.proofs.Math.Path.{refl, ap}
 use Rattle.std.proofs.Common.{ap₂, ◌∙◌, arith, take_at, drop_at}
 use Rattle.std.proofs.Math.Bool.{true}
@@ -11,9 +11,8 @@ use Rattle.std.proofs.Math.ListN.{length, drop, length-map}
 use Rattle.std.proofs.Math.IntN.{ℤ}
 use Rattle.rules.specs.declared.StreamInfo.{StreamInfo}
 use Rattle.rules.specs.declared.PackingSettings.{PackingSettings}
-use Rattle.rules.specs.declared.Packed.TheVariants as packed
-use Rattle.rules.specs.declared.Answer.{Answer}
-use Rattle.rules.specs.declared.Answer.TheVariants.{Accepted}
+use Rattle.rules.specs.declared.Decoded.{Decoded}
+use Rattle.rules.specs.declared.Refused.{Refused}
 use Rattle.rules.specs.Answers.{got}
 use Rattle.rules.specs.Bits.{bits_of, place_of}
 use Rattle.rules.specs.Words.{wrap, shift_left}
@@ -51,13 +50,13 @@ wrap-all (one {x = x} h hs) = ap₂ ◌∷◌ (wrap_id 16 x (omega arith) h) (wr
 -- ---- what comes back
 
 -- the reader counts the passage, stops behind the packet's n bytes, and leaves `kept` in the output; later places stay
-pub record Back (passage kept : List ℤ) (n : ℕ) (out out' : List ℤ) (r : Answer) : Type 0 where
-  pub answer : r ≡ Accepted (length passage) (place_of (8 * n))
+pub record Back {A : Type 0} (passage : List ℤ) (kept : List A) (n : ℕ) (out out' : List A) (r : Result Decoded Refused) : Type 0 where
+  pub answer : r ≡ Ok (record { count = length passage; at = place_of (8 * n) })
   pub samples : take (length passage) out' ≡ kept
   pub later : drop (length passage) out' ≡ drop (length passage) out
 
 module _ {s : StreamInfo} {t : PackingSettings} {passage : List ℤ} (held : Held s t) (samples : AllIn 16 passage)
-    {bytes bytes' : List ℕ} {scr scr' : List ℤ} {n : ℕ} (promise : writer.Promise s t passage bytes bytes' scr scr' (packed.Accepted n)) where
+    {bytes bytes' : List ℕ} {scr scr' : List ℤ} {n : ℕ} (promise : writer.Promise s t passage bytes bytes' scr scr' (Ok n)) where
   -- the history and the coefficients after every sample, worked out from the packet's bits, are those worked out from the passage
   pub after-every-sample : (later : List ℕ) → packet (bits_of (take n bytes' ++ later)) s ≡ got (sound_of s t passage) (8 * n)
   after-every-sample later =
@@ -66,14 +65,14 @@ module _ {s : StreamInfo} {t : PackingSettings} {passage : List ℤ} (held : Hel
       rw (w.packet, bits_append) (packet_back s t passage w.writable held samples (bits_of later) ∙ ap (got (sound_of s t passage)) place)
 
   -- a read of the packet, with anything after it, into output and scratch that are long enough
-  module _ (later : List ℕ) {out out' scr₂ scr₂' : List ℤ} {r : Answer} (places : output_places s ≤ length out) (room : scratch_places s ≤ length scr₂) where
-    pub round_trip : {w : Width} → accepted w s ≡ true → reader.Promise w s (take n bytes' ++ later) out out' scr₂ scr₂' r
+  module _ {A : Type 0} (later : List ℕ) {out out' : List A} {scr₂ scr₂' : List ℤ} {r : Result Decoded Refused} (places : output_places s ≤ length out) (room : scratch_places s ≤ length scr₂) where
+    pub round_trip : {w : Width A} → accepted w s ≡ true → reader.Promise w s (take n bytes' ++ later) out out' scr₂ scr₂' r
         → Back passage (map (w.keep 16) passage) n out out' r
     unfolding roomy decoded answer_of output_after written
     round_trip {w} takes read =
         let facts = told s t passage (wrote held.mb_byte promise).writable in
         let c : ℕ = s.num_channels in
-        let kept : List ℤ = map (w.keep 16) passage in
+        let kept : List A = map (w.keep 16) passage in
         let size : length kept ≡ length passage = length-map passage (w.keep 16) in
         let fit : length kept ≤ length out = omega (arith, mul-le-mul_right c facts.rows_le, facts.rows) in
         let long : roomy s (length out) (length scr₂) ≡ true = rw (le-leb (output_places s) (length out) places, le-leb (scratch_places s) (length scr₂) room) in
@@ -87,14 +86,15 @@ module _ {s : StreamInfo} {t : PackingSettings} {passage : List ℤ} (held : Hel
           later = rw whole (drop_at kept _ (length passage) size);
         }
 
+  module _ (later : List ℕ) {out out' scr₂ scr₂' : List ℤ} {r : Result Decoded Refused} (places : output_places s ≤ length out) (room : scratch_places s ≤ length scr₂) where
     -- as `i16`, the passage itself
     pub round_trip_i16 : reader.Promise i16_output s (take n bytes' ++ later) out out' scr₂ scr₂' r → Back passage passage n out out' r
     unfolding accepted
     round_trip_i16 read =
         let w = (wrote held.mb_byte promise).writable in
         let depth : s.bit_depth ≡ 16 = (told s t passage w).depth in
-        rw (wrap-all samples) at (round_trip {w = i16_output} (rw depth (rw depth at w.reader)) read)
+        rw (wrap-all samples) at (round_trip later places room {w = i16_output} (rw depth (rw depth at w.reader)) read)
 
     -- as `i32`, the passage in the upper 16 bits
     pub round_trip_i32 : reader.Promise i32_output s (take n bytes' ++ later) out out' scr₂ scr₂' r → Back passage (map (λ x. shift_left x 16) passage) n out out' r
-    round_trip_i32 = round_trip {w = i32_output} (wrote held.mb_byte promise).writable.reader
+    round_trip_i32 = round_trip later places room {w = i32_output} (wrote held.mb_byte promise).writable.reader

@@ -1,12 +1,11 @@
 -- What the stream, the reader, the writer and the text of the settings say of lengths.
 use Rattle.std.proofs.Common.{◌≡◌, ℕ, ◌≤◌, true, List, ◌++◌, length, take, drop, ℤ, refl, ap, ◌∙◌, mul-le-mul_right, mul-le-mul, arith, length-append, length-drop, length-take-le}
-use Rattle.rules.specs.declared.Place.{Place}
 use Rattle.rules.specs.declared.StreamInfo.{StreamInfo}
 use Rattle.rules.specs.declared.PackingSettings.{PackingSettings}
-use Rattle.rules.specs.declared.Answer.{Answer}
-use Rattle.rules.specs.declared.Answer.TheVariants as read
-use Rattle.rules.specs.declared.Packed.{Packed}
-use Rattle.rules.specs.declared.Packed.TheVariants.{Accepted}
+use Rattle.std.specs.Prelude.{Result, Ok, Err}
+use Rattle.rules.specs.declared.Decoded.{Decoded}
+use Rattle.rules.specs.declared.Refusal.{Refusal}
+use Rattle.rules.specs.declared.Refused.{Refused}
 use Rattle.rules.specs.Bits.{bits_of}
 use Rattle.rules.specs.Stream.{Width, accepted, output_places}
 use Rattle.laws.specs.Buffers.{laid-length}
@@ -17,14 +16,13 @@ use Rattle.dec.specs.Promise as dec
 use Rattle.dec.proofs.Promises.{accepted_count}
 use Rattle.enc.specs.Promise as enc
 use Rattle.theorems.specs.Refused.{Cause, all_hold, refused_when}
-use Rattle.text.specs.declared.Numbers.{Numbers}
-use Rattle.text.specs.declared.Numbers.TheVariants.{Many}
+use Rattle.text.specs.declared.TextError.{TextError}
 use Rattle.text.specs.Text.{Read, whole, wrong, full, numbers_of, Tells}
 use Rattle.walk.specs.Held.{Small}
 
 -- ---- the stream
 
-pub small : (w : Width) (s : StreamInfo) → accepted w s ≡ true → Small s
+pub small : {A : Type 0} (w : Width A) (s : StreamInfo) → accepted w s ≡ true → Small s
 small w s e =
     let f = accepted_fields w s e in
     record { frame_le = f.frame_le; channels_le = f.channels_le; channels_ge = f.channels_ge }
@@ -45,27 +43,27 @@ passage_le s h {n} xs ys e f l =
     back_le (output_places s) n xs ys (omega arith) f (omega arith)
 
 -- an accepted packet has no more samples than a frame
-pub read_le : {w : Width} {s : StreamInfo} {bytes : List ℕ} {out out' scr scr' : List ℤ} {n : ℕ} {at : Place} {r : Answer}
-    → dec.Promise w s bytes out out' scr scr' r → r ≡ read.Accepted n at → n ≤ output_places s
-read_le {w} {s} {bytes} {out} {out'} {scr} {scr'} {n} {at} h e =
+pub read_le : {A : Type 0} {w : Width A} {s : StreamInfo} {bytes : List ℕ} {out out' : List A} {scr scr' : List ℤ} {d : Decoded} {r : Result Decoded Refused}
+    → dec.Promise w s bytes out out' scr scr' r → r ≡ Ok d → d.count ≤ output_places s
+read_le {s = s} {bytes = bytes} h e =
     let a = accepted_count (rw e at h) in
     let shaped = all_got (rw a.read at (packet_shaped (bits_of bytes) s)) in
     rw a.count (mul-le-mul_right s.num_channels shaped.samples_le)
 
 -- a packet lies in the lent bytes
-pub packed_le : {s : StreamInfo} {t : PackingSettings} {passage : List ℤ} {bytes bytes' : List ℕ} {scr scr' : List ℤ} {n : ℕ} {r : Packed}
-    → enc.Promise s t passage bytes bytes' scr scr' r → r ≡ Accepted n → n ≤ length bytes
-packed_le {s} {t} {passage} {bytes} {scr} {n} h e = by ((refused_when h (Accepted n)).0 e)
+pub packed_le : {s : StreamInfo} {t : PackingSettings} {passage : List ℤ} {bytes bytes' : List ℕ} {scr scr' : List ℤ} {n : ℕ} {r : Result ℕ Refusal}
+    → enc.Promise s t passage bytes bytes' scr scr' r → r ≡ Ok n → n ≤ length bytes
+packed_le {s} {t} {passage} {bytes} {scr} {n} h e = by ((refused_when h (Ok n)).0 e)
   where
-    by : {m : ℕ} → Cause s t passage (length bytes) (length scr) (Accepted m) → m ≤ length bytes
+    by : {m : ℕ} → Cause s t passage (length bytes) (length scr) (Ok m) → m ≤ length bytes
     by (all_hold f g h i j) = j
 
 -- ---- the text
 
-pub same_long : {text : List ℕ} {was is : List ℤ} {r : Numbers} → Tells text was is r → length is ≡ length was
+pub same_long : {text : List ℕ} {was is : List ℤ} {r : Result ℕ TextError} → Tells text was is r → length is ≡ length was
 same_long {was} h = ap length h.places ∙ laid-length _ was
 
-pub many_few : {text : List ℕ} {was is : List ℤ} {r : Numbers} (n : ℕ) → Tells text was is r → r ≡ Many n → n ≤ 68
+pub many_few : {text : List ℕ} {was is : List ℤ} {r : Result ℕ TextError} (n : ℕ) → Tells text was is r → r ≡ Ok n → n ≤ 68
 many_few {text} n h e = by (numbers_of text) refl
   where
     by : (a : Read) → numbers_of text ≡ a → n ≤ 68

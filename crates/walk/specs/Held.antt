@@ -1,30 +1,14 @@
 -- What the parts of the program hold of each other: counts that lie within the places, and lengths that fit the stream.
 use Rattle.std.specs.Prelude.{◌≡◌, ℕ, ◌*◌, ◌/◌, ◌≤◌, List, length, take, ℤ}
 use Rattle.rules.specs.declared.StreamInfo.{StreamInfo}
-use Rattle.walk.specs.declared.files.Loaded.{Loaded}
-use Rattle.walk.specs.declared.files.Loaded.TheVariants.{Filled, Failed}
-use Rattle.walk.specs.declared.packets.Found.{Found}
-use Rattle.walk.specs.declared.packets.Found.TheVariants.{Packet, End, Stop}
 
 -- n of the places, from their start; the second part follows from the first, and spares a lent part its proof
 abbrev pub IsPrefixLen : ℕ → List ℕ → Type 0
 IsPrefixLen n places = (n ≤ length places) × (n ≡ length (take n places))
 
--- as many of the places are filled
-abbrev pub Holds : Loaded → List ℕ → Type 0
-Holds (Filled n) places = IsPrefixLen n places
-Holds Failed places = Unit {0}
-
 -- no more numbers than there is room for, in as many places as before
-abbrev pub Few : Loaded → List ℤ → List ℤ → Type 0
-Few (Filled n) was is = (n ≤ 68) × (length is ≡ length was)
-Few Failed was is = Unit {0}
-
--- the packet lies in the places
-abbrev pub Framed : Found → List ℕ → Type 0
-Framed (Packet n) places = IsPrefixLen n places
-Framed End places = Unit {0}
-Framed Stop places = Unit {0}
+abbrev pub Few : ℕ → List ℤ → List ℤ → Type 0
+Few n was is = (n ≤ 68) × (length is ≡ length was)
 
 -- the stream fits the memory of a run
 pub record Small (s : StreamInfo) : Type 0 where

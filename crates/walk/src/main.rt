@@ -25,26 +25,24 @@ mod say;
 use std::env::FillError;
 use std::rt::Env;
 
-#[derive(Clone, Copy)]
 enum Command {
     Pack,
     Unpack,
     Check,
-    Unknown,
 }
 
-// The command and how many words stand after it.
-fn command_of(word: &[u8], words: usize) -> Command {
+// The command, where as many words stand after it as it takes.
+fn command_of(word: &[u8], words: usize) -> Option<Command> {
     if check::same(word, b"pack") && words == 4 {
-        return Command::Pack;
+        return Some(Command::Pack);
     }
     if check::same(word, b"unpack") && words == 3 {
-        return Command::Unpack;
+        return Some(Command::Unpack);
     }
     if check::same(word, b"check") && words == 3 {
-        return Command::Check;
+        return Some(Command::Check);
     }
-    Command::Unknown
+    None
 }
 
 // How many words there are, the program's name among them, and 5 where there are more.
@@ -59,19 +57,17 @@ fn count_words(rt: &impl Env) -> usize {
 }
 
 // A word that is missing, or too long for a command, is no command.
-fn read_command(rt: &impl Env) -> Command {
+fn read_command(rt: &impl Env) -> Option<Command> {
     let mut word = [0u8; 6];
-    match rt.arg(1, &mut word) {
-        Ok(n) => command_of(&word[..n], count_words(rt)),
-        Err(_) => Command::Unknown,
-    }
+    let n = rt.arg(1, &mut word).ok()?;
+    command_of(&word[..n], count_words(rt))
 }
 
 fn main(rt: HostRuntime) {
-    match read_command(&rt) {
-        Command::Pack => packing::pack(&rt),
-        Command::Unpack => reading::unpack(&rt),
-        Command::Check => reading::check(&rt),
-        Command::Unknown => say::usage(&rt),
-    }
+    let _ = match read_command(&rt) {
+        Some(Command::Pack) => packing::pack(&rt),
+        Some(Command::Unpack) => reading::unpack(&rt),
+        Some(Command::Check) => reading::check(&rt),
+        None => Err(say::usage(&rt)),
+    };
 }

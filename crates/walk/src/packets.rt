@@ -1,69 +1,55 @@
 // Packets on standard input and output, each with its length in front of it.
-ghost use Rattle.std.specs.Prelude.{◌<◌, length};
-ghost use Rattle.walk.specs.Held.{Framed};
+ghost use Rattle.std.specs.Prelude.{◌<◌, length, IfOk, IfSome};
+ghost use Rattle.walk.specs.Held.{IsPrefixLen};
 
 use crate::input::read_full;
 use crate::say;
-use crate::say::Counts;
+use crate::say::{Counts, Stopped};
 use std::io;
 use std::io::Read;
 
-// The next packet's length, or the end, or that a message has said what is wrong.
-#[derive(Clone, Copy)]
-pub enum Found {
-    Packet(usize),
-    End,
-    Stop,
-}
-
-// Whether there is more to do.
-#[derive(Clone, Copy)]
-pub enum Next {
-    On(Counts),
-    Stop,
-}
-
-pub fn next_packet(rt: &(impl Input + Eprint), places: &mut [u8], so_far: Counts) -> Found
-    ensures { Framed result places.new }
+// The next packet's length, or nothing where the input is at its end.
+pub fn next_packet(
+    rt: &(impl Input + Eprint),
+    places: &mut [u8],
+    so_far: Counts,
+) -> Result<Option<usize>, Stopped>
+    ensures { IfOk result (λ found. IfSome found (λ n. IsPrefixLen n places.new)) }
 {
     let mut input = rt.reader();
     let mut front = [0u8; 4];
     let got = read_full(&mut input, &mut front);
     if got == 0 {
-        return Found::End;
+        return Ok(None);
     }
     if got < 4 {
-        say::stopped(rt, so_far.packets, "the input ends inside a length");
-        return Found::Stop;
+        return Err(say::stop(rt, so_far.packets, "the input ends inside a length"));
     }
     let n = wire::length_of(front) as usize;
     if places.len() < n {
-        say::stopped_with(
+        return Err(say::stop_with(
             rt,
             so_far.packets,
             "the next length is more than any packet has, in bytes: ",
             n as u64,
-        );
-        return Found::Stop;
+        ));
     }
     let filled = read_full(&mut input, &mut places[..n]);
     if filled < n {
-        say::stopped(rt, so_far.packets, "the input ends inside a packet");
-        return Found::Stop;
+        return Err(say::stop(rt, so_far.packets, "the input ends inside a packet"));
     }
-    Found::Packet(n)
+    Ok(Some(n))
 }
 
 // A read that brings nothing is the end only where the next brings nothing too, and does not fail.
-pub fn ended(rt: &(impl Input + Eprint), so_far: Counts) -> Next {
+pub fn ended(rt: &(impl Input + Eprint), so_far: Counts) -> Stopped {
     let mut input = rt.reader();
     let mut next = [0u8; 1];
     if let Ok(0) = input.read(&mut next) {
-        say::done(rt, so_far);
+        say::done(rt, so_far)
     } else {
-        say::stopped(rt, so_far.packets, "standard input cannot be read");
+        say::stop(rt, so_far.packets, "standard input cannot be read")
     }
-    Next::Stop
 }
 
 pub fn put_packet(rt: &impl Print, packet: &[u8]) -> io::Result<()>
@@ -74,11 +60,15 @@ pub fn put_packet(rt: &impl Print, packet: &[u8]) -> io::Result<()>
     rt.write_all(packet)
 }
 
-// On, where the output took all of it.
-pub fn sent(rt: &impl Eprint, written: io::Result<()>, so_far: Counts, counts: Counts) -> Next {
+// The counts, where the output took all of it.
+pub fn sent(
+    rt: &impl Eprint,
+    written: io::Result<()>,
+    so_far: Counts,
+    counts: Counts,
+) -> Result<Counts, Stopped> {
     if written.is_ok() {
-        return Next::On(counts);
+        return Ok(counts);
     }
-    say::stopped(rt, so_far.packets, "standard output cannot be written");
-    Next::Stop
+    Err(say::stop(rt, so_far.packets, "standard output cannot be written"))
 }

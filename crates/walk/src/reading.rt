@@ -2,58 +2,66 @@
 ghost use Rattle.std.specs.Prelude.{◌*◌, ◌≤◌, length};
 ghost use Rattle.walk.specs.Held.{Small};
 
-use crate::files::Opened;
-use crate::packets::{Found, Next, ended, next_packet, sent};
-use crate::say::Counts;
+use crate::packets::{ended, next_packet, sent};
+use crate::say::{Counts, Stopped};
 use crate::{files, room, say};
-use rules::{Answer, StreamInfo};
+use rules::{Refusal, StreamInfo};
 use std::io;
 use std::rt::{Env, Files};
 
-pub fn unpack<R: Alloc + Env + Eprint + Files + Input + Print>(rt: &R) {
-    read_packets(rt, false);
+// What goes out for a packet: its samples, or a line in their place.
+#[derive(Clone, Copy)]
+enum Output {
+    Samples,
+    Line,
 }
 
-pub fn check<R: Alloc + Env + Eprint + Files + Input + Print>(rt: &R) {
-    read_packets(rt, true);
+pub fn unpack<R: Alloc + Env + Eprint + Files + Input + Print>(rt: &R) -> Result<(), Stopped> {
+    read_packets(rt, Output::Samples)
 }
 
-// Where `lists` holds, a line goes out in the place of a packet's samples.
-fn read_packets<R: Alloc + Env + Eprint + Files + Input + Print>(rt: &R, lists: bool) {
-    let opened = files::open_stream(rt);
-    let Opened::Stream(s) = opened else {
-        return;
-    };
-    if stream::accepted(s, stream::takes_i16(s.bit_depth)) {
-        read_all(rt, s, lists);
-        return;
+pub fn check<R: Alloc + Env + Eprint + Files + Input + Print>(rt: &R) -> Result<(), Stopped> {
+    read_packets(rt, Output::Line)
+}
+
+fn read_packets<R: Alloc + Env + Eprint + Files + Input + Print>(
+    rt: &R,
+    output: Output,
+) -> Result<(), Stopped> {
+    let s = files::open_stream(rt)?;
+    if stream::accepts::<i16>(s) {
+        return read_all(rt, s, output);
     }
-    files::refuse_stream(rt);
+    Err(files::refuse_stream(rt))
 }
 
 // A proved loop has to end, and nothing says that the input does: the turns are counted up to a number that no run reaches.
-fn read_all(rt: &(impl Eprint + Input + Print), s: StreamInfo, lists: bool)
+fn read_all(
+    rt: &(impl Eprint + Input + Print),
+    s: StreamInfo,
+    output: Output,
+) -> Result<(), Stopped>
     requires { Small s }
 {
-    let mut counts = say::none();
+    let mut counts = Counts::default();
     for _ in 0..u64::MAX {
-        let next = read_next(rt, s, lists, counts);
-        let Next::On(more) = next else {
-            return;
-        };
-        counts = more;
+        counts = read_next(rt, s, output, counts)?;
     }
+    Ok(())
 }
 
-fn read_next(rt: &(impl Eprint + Input + Print), s: StreamInfo, lists: bool, so_far: Counts) -> Next
+fn read_next(
+    rt: &(impl Eprint + Input + Print),
+    s: StreamInfo,
+    output: Output,
+    so_far: Counts,
+) -> Result<Counts, Stopped>
     requires { Small s }
 {
     let mut places = room::packet();
-    let found = next_packet(rt, &mut places, so_far);
-    match found {
-        Found::Packet(n) => read_one(rt, &places[..n], s, lists, so_far),
-        Found::End => ended(rt, so_far),
-        Found::Stop => Next::Stop,
+    match next_packet(rt, &mut places, so_far)? {
+        Some(n) => read_one(rt, &places[..n], s, output, so_far),
+        None => Err(ended(rt, so_far)),
     }
 }
 
@@ -62,9 +70,9 @@ fn read_one(
     rt: &(impl Eprint + Print),
     packet: &[u8],
     s: StreamInfo,
-    lists: bool,
+    output: Output,
     so_far: Counts,
-) -> Next
+) -> Result<Counts, Stopped>
     requires { Small s }
 {
     let mut samples = room::samples();
@@ -72,22 +80,19 @@ fn read_one(
     let frame = s.frame_length as usize;
     let places = frame * s.num_channels as usize;
     let halves = 2 * frame;
-    let answer = dec::decode_packet_i16(packet, s, &mut samples[..places], &mut scratch[..halves]);
-    match answer {
-        Answer::Accepted(count, _) => {
+    match dec::decode_packet(packet, s, &mut samples[..places], &mut scratch[..halves]) {
+        Ok(decoded) => sent(
+            rt,
+            put(rt, output, None, &samples[..decoded.count]),
+            so_far,
+            so_far.one_more(),
+        ),
+        Err(refused) => {
+            let refusal = refused.refusal;
+            let counts = say::refused(rt, so_far, u32::from(refusal));
             sent(
                 rt,
-                put(rt, lists, 0, &samples[..count]),
-                so_far,
-                say::one_more(so_far),
-            )
-        }
-        Answer::Refused(refusal, _) => {
-            let number = rules::number_of(refusal);
-            let counts = say::refused(rt, so_far, number);
-            sent(
-                rt,
-                put(rt, lists, number, &samples[..places]),
+                put(rt, output, Some(refusal), &samples[..places]),
                 so_far,
                 counts,
             )
@@ -95,16 +100,20 @@ fn read_one(
     }
 }
 
-fn put(rt: &impl Print, lists: bool, number: u32, samples: &[i16]) -> io::Result<()>
+// A refused packet's line counts no samples.
+fn put(rt: &impl Print, output: Output, refusal: Option<Refusal>, samples: &[i16]) -> io::Result<()>
     requires { 2 * length samples.now ≤ 65536 }
 {
-    if !lists {
-        return put_samples(rt, samples);
+    match output {
+        Output::Samples => put_samples(rt, samples),
+        Output::Line => {
+            let (number, count) = match refusal {
+                None => (0, samples.len()),
+                Some(refusal) => (u32::from(refusal), 0),
+            };
+            println!(rt; "{number} {count}")
+        }
     }
-    if number > 0 {
-        return put_line(rt, number as u64, 0);
-    }
-    put_line(rt, 0, samples.len() as u64)
 }
 
 fn put_samples(rt: &impl Print, samples: &[i16]) -> io::Result<()>
@@ -114,8 +123,4 @@ fn put_samples(rt: &impl Print, samples: &[i16]) -> io::Result<()>
     let n = 2 * samples.len();
     wire::bytes_of(samples, &mut bytes[..n]);
     rt.write_all(&bytes[..n])
-}
-
-fn put_line(rt: &impl Print, number: u64, count: u64) -> io::Result<()> {
-    println!(rt; "{number} {count}")
 }

@@ -1,24 +1,23 @@
 // What the program says, all of it on standard error. Where that cannot be written, the program goes on without a word.
 use std::io;
 
+// The program stops. Its last message is out: all is done, or why not.
+#[derive(Drop)]
+pub struct Stopped;
+
 // The packets that are done, and how many of them were refused.
-#[derive(Clone, Copy)]
+#[derive(Clone, Copy, Default)]
 pub struct Counts {
     pub packets: u64,
     pub refused: u64,
 }
 
-pub fn none() -> Counts {
-    Counts {
-        packets: 0,
-        refused: 0,
-    }
-}
-
-pub fn one_more(counts: Counts) -> Counts {
-    Counts {
-        packets: counts.packets.wrapping_add(1),
-        refused: counts.refused,
+impl Counts {
+    pub fn one_more(self) -> Counts {
+        Counts {
+            packets: self.packets.wrapping_add(1),
+            refused: self.refused,
+        }
     }
 }
 
@@ -32,34 +31,38 @@ pub fn refused(rt: &impl Eprint, counts: Counts, number: u32) -> Counts {
     }
 }
 
-pub fn done(rt: &impl Eprint, counts: Counts) {
+pub fn done(rt: &impl Eprint, counts: Counts) -> Stopped {
     let _ = eprintln!(rt;
         "walk: {} packets, {} refused",
         counts.packets, counts.refused
     );
+    Stopped
 }
 
 fn stopping(rt: &impl Eprint, packets: u64) {
     let _ = eprint!(rt; "walk: stopped after {packets} packets: ");
 }
 
-pub fn stopped(rt: &impl Eprint, packets: u64, why: &str) {
+pub fn stop(rt: &impl Eprint, packets: u64, why: &str) -> Stopped {
     stopping(rt, packets);
     let _ = eprintln!(rt; "{why}");
+    Stopped
 }
 
-pub fn stopped_with(rt: &impl Eprint, packets: u64, why: &str, number: u64) {
+pub fn stop_with(rt: &impl Eprint, packets: u64, why: &str, number: u64) -> Stopped {
     stopping(rt, packets);
     let _ = eprintln!(rt; "{why}{number}");
+    Stopped
 }
 
-pub fn too_long(rt: &impl Eprint, name: &str, most: u64) {
+pub fn too_long(rt: &impl Eprint, name: &str, most: u64) -> Stopped {
     stopping(rt, 0);
     let _ = eprintln!(rt; "{name} is longer than {most} bytes");
+    Stopped
 }
 
 // Why a file cannot be read, in the system's words: std has its number behind them.
-pub fn failed(rt: &(impl Alloc + Eprint), name: &str, error: io::Error) {
+pub fn failed(rt: &(impl Alloc + Eprint), name: &str, error: io::Error) -> Stopped {
     stopping(rt, 0);
     let words = format!(in rt.alloc(); "{error}");
     let _ = match words {
@@ -69,9 +72,10 @@ pub fn failed(rt: &(impl Alloc + Eprint), name: &str, error: io::Error) {
         },
         Err(_) => eprintln!(rt; "{name}: {error}"),
     };
+    Stopped
 }
 
-pub fn usage(rt: &impl Eprint) {
+pub fn usage(rt: &impl Eprint) -> Stopped {
     let _ = eprintln!(rt; "usage: walk pack COOKIE SETTINGS < samples > packets");
     let _ = eprintln!(rt; "       walk unpack COOKIE < packets > samples");
     let _ = eprintln!(rt; "       walk check COOKIE < packets");
@@ -84,4 +88,5 @@ pub fn usage(rt: &impl Eprint) {
     let _ = eprintln!(rt;
         "There is no exit status: the last line is 'walk: N packets, M refused', or 'walk: stopped after N packets: WHY'."
     );
+    Stopped
 }

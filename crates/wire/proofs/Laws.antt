@@ -1,23 +1,18 @@
 -- The loops over samples and bytes.
 use Prim.Native.Nat.{ℕ, zero, suc, ◌+◌, ◌*◌, ◌/◌, ◌%◌, ◌^◌, ◌≤◌, ◌<◌}
-use mathlib.Core.Path.{◌≡◌, refl, sym, ◌∙◌}
+use mathlib.Core.Path.{◌≡◌, refl, sym, ap, ◌∙◌}
 use mathlib.Core.List.{List, [], ◌∷◌, ◌++◌, append-nil, append_assoc}
 use native.Mathlib.Numerals.{add-one}
 use native.Mathlib.Omega.{arith}
 use lib.ListN.{length, get_or, take, drop, set, length-set, drop_of_length-le}
 use lib.Seq.{drop-cons, take-suc-set, take_all}
 use lib.IntN.{ℤ, pos}
+use mir.Syntax.{w8, w16}
+use mir.Val.{Fits, to_z, of_z}
+use Rattle.words.proofs.Laws.{number_is, bits_are}
 use Rattle.rules.specs.Words.{mod_z, signed}
 use Rattle.laws.specs.Words.{mod_z_lt}
 use Rattle.wire.specs.Raw.{samples_of, bytes_of}
-
-pub four : (xs : List ℕ) → length xs ≡ 4 → xs ≡ get_or xs 0 0 ∷ get_or xs 1 0 ∷ get_or xs 2 0 ∷ get_or xs 3 0 ∷ []
-four [] h = absurd (omega arith)
-four (a ∷ []) h = absurd (omega arith)
-four (a ∷ (b ∷ [])) h = absurd (omega arith)
-four (a ∷ (b ∷ (c ∷ []))) h = absurd (omega arith)
-four (a ∷ (b ∷ (c ∷ (d ∷ [])))) h = refl
-four (a ∷ (b ∷ (c ∷ (d ∷ (e ∷ xs))))) h = absurd (omega arith)
 
 -- ---- bytes to samples
 
@@ -56,6 +51,12 @@ module _ (bytes : List ℕ) where
         let s = g.size in
         let l : length bytes ≤ 2 * i = omega arith in
         sym (append-nil is) ∙ (rw (take_all i is h, drop_of_length-le bytes l) at g.go)
+
+-- two bytes as a sample
+pub sample_is : (low high : ℕ) → Fits w8 low → Fits w8 high → to_z w16 (low + high * 256) ≡ signed 16 (high * 256 + low)
+sample_is low high l h =
+    let e : low + high * 256 ≡ high * 256 + low = omega arith in
+    ap (to_z w16) e ∙ number_is w16 (high * 256 + low) (omega (arith, l.fits, h.fits))
 
 -- ---- samples to bytes
 

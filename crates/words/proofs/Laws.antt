@@ -13,7 +13,8 @@ use lib.Signed.{shr_z, mag, mag_shr, nat_abs-le, lt_z, le_z}
 use mir.Syntax.{Width, w16, w32, w64}
 use mir.Val.{bits, hbits, SFits, to_z, of_z, sel}
 use mir.ValLaws.{pow-bits, half_full, to_z-of_z, to_z-Fits, Fits-wrap, to_z_pos}
-use mir.Facts.{sfits_widen}
+use mir.Facts.{sfits_widen, Fits-of_z, to_z-neg}
+use Rattle.std.specs.Int.{int_signum}
 use Rattle.rules.specs.Answers.{pick}
 use Rattle.rules.specs.Words.{mod_z, signed, wrap, sign, is_zero}
 use Rattle.laws.specs.Words.{mag_plus, mag_minus, mag_times, neg_mod, mod_z_lt, wrap_small}
@@ -49,6 +50,23 @@ bits_mod w b s e (pos n) f = refl
 bits_mod w b s e (negsuc n) f =
     let g : 2 ^ bits w ≡ 2 ^ s * 2 ^ b = ap (λ (k : ℕ). 2 ^ k) e ∙ pow-add 2 b s ∙ mul_comm (2 ^ b) (2 ^ s) in
     rw g (neg_mod (2 ^ s) (2 ^ b) n (pow_pos b) (rw g at (half_full w f.sfits)))
+
+-- all bits of z
+pub bits_are : (w : Width) (z : ℤ) → SFits w z → of_z w z ≡ mod_z (2 ^ bits w) z
+bits_are w z f = sym (mod-eq_of_lt (Fits-of_z f).fits) ∙ bits_mod w (bits w) 0 (sym (add-zero (bits w))) z f
+
+-- bits as a signed number
+pub number_is : (w : Width) (n : ℕ) → n < 2 ^ bits w → to_z w n ≡ signed (bits w) n
+unfolding signed
+number_is w n h = by (ltb (2 * n) (2 ^ bits w)) refl
+  where
+    by : (t : Bool) → ltb (2 * n) (2 ^ bits w) ≡ t → to_z w n ≡ pick t (pos n) (negsuc (2 ^ bits w - suc n))
+    by true e = to_z_pos w n (omega (arith, ltb-true (2 * n) (2 ^ bits w) e, pow-bits w))
+    by false e =
+        let k : ℕ = 2 ^ bits w - suc n in
+        let l : k < 2 ^ hbits w = omega (arith, ltb-false (2 * n) (2 ^ bits w) e, pow-bits w) in
+        let m : n ≡ 2 ^ bits w - suc k = omega arith in
+        ap (to_z w) m ∙ to_z-neg w k l
 
 module _ (q S B H M : ℕ) (hS : 0 < S) (hq : q < B) (e : M ≡ B * S) (g : M ≡ H * 2) where
   back : (t : Bool) → ltb (2 * q) B ≡ t
@@ -144,31 +162,13 @@ shifted_fits x s f h =
     let l : nat_abs x * 2 ^ s ≤ 2 ^ 31 * 2 ^ 31 = mul-le-mul (nat_abs-le x f.sfits) (pow_mono (le_of_suc-le-suc h)) in
     record { sfits = lt_of_le_of_lt (le_trans (mag_times x (pos (2 ^ s))) l) (lit< tt) }
 
--- a number of 32 bits and 2 ^ 32 more
-pub above_zero : (x : ℤ) → mag x < 2 ^ 31 → x +ℤ pos 4294967296 ≡ pos (nat_abs (x +ℤ pos 4294967296))
-above_zero (pos n) h = refl
-above_zero (negsuc n) h =
-    let l : suc n ≤ 4294967296 = omega arith in
-    rw (le-ltb 4294967296 (suc n) l)
-
 -- ---- tests of the sign and of zero
 
-pub sign_above : (x : ℤ) → lt_z (pos 0) x ≡ true → pos 1 ≡ sign x
+pub sign_is : (x : ℤ) → int_signum x ≡ sign x
 unfolding sign
-sign_above (pos zero) e = absurd (lt_irrefl 0 (ltb-true 0 0 e))
-sign_above (pos (suc n)) e = refl
-sign_above (negsuc n) e = absurd (false≢true e)
-
-pub sign_below : (x : ℤ) → lt_z x (pos 0) ≡ true → negsuc 0 ≡ sign x
-unfolding sign
-sign_below (pos n) e = absurd (not-suc-le-zero (ltb-true n 0 e))
-sign_below (negsuc n) e = refl
-
-pub sign_zero : (x : ℤ) → lt_z (pos 0) x ≡ false → lt_z x (pos 0) ≡ false → pos 0 ≡ sign x
-unfolding sign
-sign_zero (pos zero) e g = refl
-sign_zero (pos (suc n)) e g = absurd (not-suc-le-zero (ltb-false 0 (suc n) e))
-sign_zero (negsuc n) e g = absurd (false≢true (sym g))
+sign_is (pos zero) = refl
+sign_is (pos (suc n)) = ap pos (omega arith)
+sign_is (negsuc n) = refl
 
 pub from_zero : (x : ℤ) → le_z (pos 0) x ≡ true → x ≡ pos (mag x)
 from_zero (pos n) e = refl

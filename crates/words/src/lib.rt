@@ -4,7 +4,7 @@
 ghost use Rattle.std.specs.Prelude.{◌≡◌, ◌≤◌, ◌<◌, ◌^◌, pos, ◌+ℤ◌};
 ghost use Rattle.rules.specs.Words.{mod_z, signed, wrap, add32, sub32, mul32, shift_right, shift_left, sign, unfolded, folded};
 
-// The low 32 bits of `s`, as a number.
+// The low 32 bits of `s`, as a number. Not generic with `low_i16`, and no `wrapping_add` of std: the edits word_of_31_bits and three more slip in the widths here.
 fn low_i32(s: i64) -> i32
     ensures { result ≡ wrap 32 s }
 {
@@ -45,13 +45,6 @@ pub fn wrapping_mul_i32(x: i32, y: i32) -> i32
     low_i32(x as i64 * y as i64)
 }
 
-// The product by a coefficient.
-pub fn wrapping_mul_i16(x: i32, c: i16) -> i32
-    ensures { result ≡ mul32 x c }
-{
-    low_i32(x as i64 * c as i64)
-}
-
 // What a coefficient gains.
 pub fn add_to_i16(c: i16, t: i32) -> i16
     ensures { result ≡ wrap 16 (c +ℤ t) }
@@ -62,13 +55,7 @@ pub fn add_to_i16(c: i16, t: i32) -> i16
 pub fn signum(x: i32) -> i32
     ensures { result ≡ sign x }
 {
-    if x > 0 {
-        1
-    } else if x < 0 {
-        -1
-    } else {
-        0
-    }
+    x.signum()
 }
 
 // The number that a symbol's value means.
@@ -116,14 +103,14 @@ pub fn one_at(q: u32) -> i32
 pub fn number_of(u: u32) -> i32
     ensures { result ≡ wrap 32 (pos u) }
 {
-    low_i32(u as i64)
+    u.cast_signed()
 }
 
 // The 32 bits of a number.
 pub fn bits_of(x: i32) -> u32
     ensures { result ≡ mod_z (2 ^ 32) x }
 {
-    ((x as i64 + 4294967296) as u64 % 4294967296) as u32
+    x.cast_unsigned()
 }
 
 // The coefficient whose 16 bits are those of `v`.
@@ -131,12 +118,12 @@ pub fn coef_of(v: u32) -> i16
     requires { v < 65536 }
     ensures { result ≡ signed 16 v }
 {
-    low_i16(v as i64)
+    (v as u16).cast_signed()
 }
 
 // The 16 bits of a coefficient.
 pub fn bits16_of(c: i16) -> u32
     ensures { result ≡ mod_z (2 ^ 16) c }
 {
-    bits_of(c as i32) % 65536
+    u32::from(c.cast_unsigned())
 }

@@ -1,4 +1,4 @@
--- `roomy` meets its contract: the output is judged, and scratch.
+-- The output is judged, and scratch.
 use mathlib.Core.Path.{refl}
 use Rattle.rules.specs.Reader.{roomy}
 use Rattle.dec.proofs.roomy.Goals as goal

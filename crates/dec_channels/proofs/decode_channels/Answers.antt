@@ -1,45 +1,31 @@
--- `decode_channels` meets its contract: one channel, or one and then the other, each in its half.
-use mathlib.Core.Path.{◌≡◌, sym, ◌∙◌}
-use native.Mathlib.Omega.{arith}
-use lib.ListN.{length, take}
-use lib.Seq.{length-take-le}
-use Rattle.rules.specs.Bits.{bit_of, bits_of}
+-- One channel, or one and then the other, each in its half.
+use mathlib.Core.Path.{◌∙◌}
 use Rattle.rules.specs.Element.{channel}
-use Rattle.bitcursor.specs.Reads.{told_as, PlainAt}
-use Rattle.bitcursor.proofs.Laws.{reached_of, refused_of, reached_plain_of, refused_plain_of}
-use Rattle.dec_channels.proofs.Laws.{each_refused, each_one, each_two, first_refused, first-filled, both_filled, second-length}
-use borrow.Author.Rules.{rules}
+use Rattle.bitcursor.proofs.Laws.{exit}
+use Rattle.dec_header.specs.Plan.{params_of}
+use Rattle.dec_channels.proofs.Laws.{plan_refused, all_one, all_two, one_fills, two_fill, refused_fills, length-first, length-second}
 use Rattle.dec_channels.proofs.decode_channels.Goals as goal
 
--- src/channels.rt:70:9
-pub returns-in_default : goal.returns-in_default
-returns-in_default c =
-    let lt : length (take c.args.n c.args.scratch.now) ≡ c.args.n = length-take-le c.args.n c.args.scratch.now (omega (arith, c.requires.roomy.short, c.requires.roomy.room)) in
-    let f = rw lt at c.decode_channel-one.ensures in
-    let ys = c.decode_channel-one.new.buf in
-    let ly : length ys ≡ c.args.n = c.decode_channel-one.auto.buf ∙ lt in
-    rw c.in_default.is (first_refused c.args.s.frame_length c.args.n c.args.scratch.now c.requires.roomy.short c.requires.roomy.room c.args.channels ys ly (each_refused (channel (bits_of c.args.packet.now) c.args.s c.args.n c.args.bps) c.args.channels c.args.plan.first c.args.plan.second (bit_of c.args.start) (refused_of f c.in_default.is)) (refused_plain_of f c.in_default.is))
+pub returns-in_err-decode_channel : goal.returns-in_err-decode_channel
+returns-in_err-decode_channel c =
+    let n = length-first c.requires.roomy in
+    let first = rw n at c.decode_channel.ensures in
+    rw (exit _ c.from_residual.ensures.1)
+    (refused_fills c.requires.roomy c.decode_channel.new.buf (c.decode_channel.auto.buf ∙ n) (plan_refused (λ packet. channel packet c.args.s c.args.n c.args.bps) c.args.plan.first c.args.plan.second first c.in_err-decode_channel.was))
 
--- src/channels.rt:73:9
-pub returns-then-channels-eq1 : goal.returns-then-channels-eq1
-unfolding told_as PlainAt
-returns-then-channels-eq1 c =
-    let lt : length (take c.args.n c.args.scratch.now) ≡ c.args.n = length-take-le c.args.n c.args.scratch.now (omega (arith, c.requires.roomy.short, c.requires.roomy.room)) in
-    let f = rw lt at c.decode_channel-one.ensures in
-    let ys = c.decode_channel-one.new.buf in
-    let ly : length ys ≡ c.args.n = c.decode_channel-one.auto.buf ∙ lt in
-    let e = each_one (channel (bits_of c.args.packet.now) c.args.s c.args.n c.args.bps) c.args.channels c.args.plan.first c.args.plan.second (bit_of c.args.start) c.if-channels-eq1.true (reached_of f c.in-At.is) in
-    rw c.if-channels-eq1.true (first-filled c.args.s.frame_length c.args.n c.args.scratch.now c.requires.roomy.short c.requires.roomy.room ys ly (record { tells = sym (rw c.if-channels-eq1.true at e); plain = reached_plain_of f c.in-At.is }))
+pub returns-in-None : goal.returns-in-None
+returns-in-None c =
+    let n = length-first c.requires.roomy in
+    let first = rw n at c.decode_channel.ensures in
+    one_fills c.requires.roomy c.decode_channel.new.buf (c.decode_channel.auto.buf ∙ n) (rw c.in-None.is)
+    (rw c.in-None.is (all_one (λ packet. channel packet c.args.s c.args.n c.args.bps) (params_of c.args.plan.first) first c.in_ok-decode_channel.was))
 
--- src/channels.rt:60:1
-pub returns : goal.returns
-returns c =
-    let lt : length (take c.args.n c.args.scratch.now) ≡ c.args.n = length-take-le c.args.n c.args.scratch.now (omega (arith, c.requires.roomy.short, c.requires.roomy.room)) in
-    let f = rw lt at c.decode_channel-one.ensures in
-    let ys = c.decode_channel-one.new.buf in
-    let ly : length ys ≡ c.args.n = c.decode_channel-one.auto.buf ∙ lt in
-    let w2 : c.args.channels ≡ 2 = omega (arith, c.if-channels-eq1.false, c.requires.roomy.some, c.requires.roomy.two) in
-    let lt2 = second-length c.args.s.frame_length c.args.n c.args.scratch.now ys c.requires.roomy.short c.requires.roomy.room ly in
-    let g = rw lt2 at c.decode_channel.ensures in
-    let zs = c.decode_channel.new.buf in
-    let lz : length zs ≡ c.args.n = c.decode_channel.auto.buf ∙ lt2 in both_filled c.args.s.frame_length c.args.n c.args.scratch.now c.requires.roomy.short c.requires.roomy.room c.args.channels ys zs w2 ly lz (each_two (channel (bits_of c.args.packet.now) c.args.s c.args.n c.args.bps) c.args.channels c.args.plan.first c.args.plan.second (bit_of c.args.start) c.if-channels-eq1.false (reached_of f c.in-At.is) g)
+pub returns-in-Some : goal.returns-in-Some
+returns-in-Some c =
+    let n = length-first c.requires.roomy in
+    let first = rw n at c.decode_channel.ensures in
+    let ys = c.decode_channel.new.buf in
+    let m = length-second c.requires.roomy ys (c.decode_channel.auto.buf ∙ n) in
+    let second = rw m at c.decode_channel-in-Some.ensures in
+    two_fill c.requires.roomy ys c.decode_channel-in-Some.new.buf (c.decode_channel.auto.buf ∙ n) (c.decode_channel-in-Some.auto.buf ∙ m) (rw c.in-Some.is)
+    (rw c.in-Some.is (all_two (λ packet. channel packet c.args.s c.args.n c.args.bps) (params_of c.args.plan.first) first c.in_ok-decode_channel.was (params_of c.in-Some.second) _ second))

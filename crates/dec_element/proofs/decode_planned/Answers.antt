@@ -1,49 +1,56 @@
 -- `decode_planned` meets its contract: the extra bits passed, the channels, and what finishes them.
-use Prim.Native.Nat.{◌*◌}
-use mathlib.Core.Path.{refl}
-use native.Mathlib.Nat.{mul-le-mul}
+use mathlib.Core.Path.{refl, ◌∙◌}
 use native.Mathlib.Omega.{arith}
-use Rattle.rules.specs.Bits.{bit_of, bits_of}
 use Rattle.laws.specs.Shape.{numbers-length}
-use Rattle.bitcursor.proofs.Laws.{reached_of, refused_of, reached_plain_of, refused_plain_of, skip_cut_of, skip-next}
-use Rattle.buffers.specs.Fills.{Laid}
+use Rattle.bitcursor.proofs.Laws.{value_of, refused_of, skip-next, exit}
 use Rattle.dec_header.specs.Plan.{plan_of}
-use Rattle.dec_element.proofs.Sounds.{sound_refused, extra_refused, each_refuses, each_sounds, compressed_sounds}
-use borrow.Author.Rules.{rules}
+use Rattle.dec_element.proofs.Sounds.{sound_refused, roomy_of, width_is, extra_refused, each_refuses, each_sounds, compressed_sounds}
 use Rattle.dec_element.proofs.decode_planned.Goals as goal
 
-pub returns-in_default : goal.returns-in_default
-returns-in_default c =
-    let a = c.args in
-    sound_refused _ _ _ _ _ refl
-    (extra_refused (bits_of a.packet.now) a.s a.channels a.bps a.shift a.n (plan_of a.channels a.plan) (bit_of a.extra) (skip_cut_of _ _ _ c.skip-passed.ensures c.in_default.is))
-    c.requires.plain
+pub returns-in_err-skip : goal.returns-in_err-skip
+returns-in_err-skip c =
+    let t = c.skip.ensures in
+    sound_refused _ _ (exit _ c.from_residual.ensures.1) (extra_refused _ _ _ _ _ _ _ _ (refused_of t c.in_err-skip.was)) t.same refl
 
-pub returns-in_default-done : goal.returns-in_default-done
-returns-in_default-done c =
-    let a = c.args in
-    let f = c.decode_channels-done.ensures in
-    rw c.in_default-done.is (sound_refused _ _ _ _ _ f.rest
-    (each_refuses (bits_of a.packet.now) a.s a.channels a.bps a.shift a.n (plan_of a.channels a.plan) (bit_of a.extra) (reached_of c.skip-passed.ensures c.in-At.is) (refused_of f.reaches c.in_default-done.is))
-    (refused_plain_of f.reaches c.in_default-done.is))
+pub decode_channels-requires : goal.decode_channels-requires
+decode_channels-requires c =
+    let a = c.requires in
+    let h = a.sounding.hearable in
+    let e = width_is _ _ h.some h.two a.allowed in
+    record {
+      kb_ge = h.legal.kb_ge;
+      kb_le = h.legal.kb_le;
+      bps_ge = a.bps_ge;
+      bps_le = a.bps_le;
+      allowed = rw e a.allowed;
+      roomy = rw e (roomy_of a.sounding _ refl);
+    }
+
+pub returns-in_err-decode_channels : goal.returns-in_err-decode_channels
+returns-in_err-decode_channels c =
+    let t = c.skip.ensures in
+    let f = c.decode_channels.ensures in
+    sound_refused _ _ (exit _ c.from_residual-in_err-decode_channels.ensures.1)
+    (each_refuses _ _ _ _ _ _ _ _ (value_of t c.in_ok-skip.was) (rw t.same at (refused_of f.reads c.in_err-decode_channels.was))) (f.reads.same ∙ t.same) f.rest
 
 pub finish-requires : goal.finish-requires
 finish-requires c =
-    let p = c.requires in
-    let l = c.decode_channels-done.auto.scratch in
-    record {
-      roomy = record { half_le = p.roomy.half_le; short = p.roomy.short; some = p.roomy.some; two = p.roomy.two; room = omega (arith, p.roomy.room, l) };
-      byte = p.allowed.mix_res_lt;
-      small = p.allowed.mix_bits_le;
-      few = p.few;
-      there = (skip-next _ _ _ (reached_of c.skip-passed.ensures c.in-At.is)).1;
-    }
+    let a = c.requires in
+    rw c.fork-extra.ensures (record {
+      roomy = roomy_of a.sounding _ c.decode_channels.auto.scratch;
+      byte = a.allowed.mix_res_lt;
+      small = a.allowed.mix_bits_le;
+      few = omega (arith, a.sounding.sane.code_le);
+      there = (skip-next _ _ _ (value_of c.skip.ensures c.in_ok-skip.was)).1;
+    })
 
 pub returns : goal.returns
-unfolding Laid
 returns c =
-    let a = c.args in
-    let f = c.decode_channels-done.ensures in
-    compressed_sounds _ _ _ _ _ _ a.shift _ _ _ c.requires.roomy c.decode_channels-done.auto.scratch (rw c.in-At-done.is at f.laid) (numbers-length _ _ _) c.finish.ensures
-    (each_sounds (bits_of a.packet.now) a.s a.channels a.bps a.shift a.n (plan_of a.channels a.plan) (bit_of a.extra) (reached_of c.skip-passed.ensures c.in-At.is) (reached_of f.reaches c.in-At-done.is))
-    (reached_plain_of f.reaches c.in-At-done.is)
+    let a = c.requires in
+    let h = a.sounding.hearable in
+    let e = width_is _ _ h.some h.two a.allowed in
+    let t = c.skip.ensures in
+    let f = c.decode_channels.ensures in
+    compressed_sounds _ _ _ _ _ _ _ (roomy_of a.sounding _ refl) c.decode_channels.auto.scratch (rw (c.in_ok-decode_channels.was, e) at f.laid) (numbers-length _ _ _)
+    (rw c.fork-extra.ensures at c.finish.ensures)
+    (each_sounds _ _ _ _ _ _ (plan_of c.args.plan) _ (value_of t c.in_ok-skip.was) (rw (t.same, e) at (value_of f.reads c.in_ok-decode_channels.was))) (f.reads.same ∙ t.same)

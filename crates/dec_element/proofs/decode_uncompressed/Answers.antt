@@ -1,15 +1,16 @@
 -- `decode_uncompressed` meets its contract: 16 before any sample.
 use mathlib.Core.Path.{refl}
 use native.Mathlib.Omega.{arith}
-use Rattle.rules.specs.Bits.{bit_of, bits_of}
-use Rattle.dec_element.proofs.Sounds.{sound_refused, raw_refused, raw_sounds}
-use borrow.Author.Rules.{rules}
+use Rattle.bitcursor.proofs.Laws.{exit}
+use Rattle.dec_element.proofs.Sounds.{sound_refused, raw_refused, raw_short, raw_sounds}
 use Rattle.dec_element.proofs.decode_uncompressed.Goals as goal
 
-pub returns-then-code-ne0 : goal.returns-then-code-ne0
-returns-then-code-ne0 c =
-    sound_refused _ _ _ _ _ refl (raw_refused (bits_of c.args.packet.now) c.args.s c.args.channels c.args.code c.args.n (bit_of c.args.at) c.if-code-ne0.true) c.requires.hearable.plain
+pub returns-then-h-ne0 : goal.returns-then-h-ne0
+returns-then-h-ne0 c = sound_refused _ _ refl (raw_refused _ _ _ _ _ _ c.if-h-ne0.true) refl refl
+
+pub returns-in_err-raw_samples : goal.returns-in_err-raw_samples
+returns-in_err-raw_samples c =
+    raw_short _ _ _ _ (omega (arith, c.if-h-ne0.false)) c.raw_samples.ensures c.in_err-raw_samples.was (exit _ c.from_residual.ensures.1)
 
 pub returns : goal.returns
-returns c =
-    raw_sounds (bits_of c.args.packet.now) c.args.s _ _ c.args.code _ (bit_of c.args.at) _ _ (omega (arith, c.if-code-ne0.false)) c.raw_samples.ensures
+returns c = raw_sounds _ _ _ _ (omega (arith, c.if-h-ne0.false)) c.raw_samples.ensures c.in_ok-raw_samples.was

@@ -2,7 +2,6 @@
 use lib.IntN.{pos}
 use Rattle.laws.specs.Words.{wrap_pos, wrap-wrap}
 use Rattle.words.proofs.Laws.{held32}
-use borrow.Author.Rules.{rules}
 use Rattle.dec_element.proofs.raw_of.Goals as goal
 
 pub returns : goal.returns
@@ -11,7 +10,7 @@ returns c =
     let depth = c.args.depth in
     cc (
       held32 c.sign_extend.result c.sign_extend.type_inv,
-      held32 c.number_of-number.result c.number_of-number.type_inv,
+      held32 c.number_of.result c.number_of.type_inv,
       wrap-wrap depth 32 (pos v) c.requires.depth_le,
       wrap_pos depth v c.requires.value_lt,
     )

@@ -1,16 +1,14 @@
--- `align` meets its contract: it moves only where it is asked to.
+-- It moves only where it is asked to.
 use Prim.Native.Nat.{suc, ◌-◌}
-use mathlib.Core.Path.{◌≡◌, refl}
+use mathlib.Core.Path.{◌≡◌}
 use native.Mathlib.Omega.{arith}
 use Rattle.rules.specs.Packet.{aligned}
-use Rattle.bitcursor.specs.Reads.{told_as, PlainAt}
-use borrow.Author.Rules.{rules}
+use Rattle.bitcursor.proofs.Laws.{gives}
 use Rattle.dec_packet.proofs.align.Goals as goal
 
 pub returns-then-asked-eq0 : goal.returns-then-asked-eq0
-unfolding aligned told_as PlainAt
-returns-then-asked-eq0 c =
-    rw c.if-asked-eq0.true (record { tells = refl; plain = c.requires })
+unfolding aligned
+returns-then-asked-eq0 c = rw c.if-asked-eq0.true gives
 
 pub returns : goal.returns
 unfolding aligned

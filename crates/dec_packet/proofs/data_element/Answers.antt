@@ -1,33 +1,23 @@
--- `data_element` meets its contract: each field follows the one before, and a short one ends it.
-use Rattle.rules.specs.Answers.{bind}
+-- Each field follows the one before.
 use Rattle.rules.specs.Packet.{data_element}
-use Rattle.bitcursor.specs.Reads.{told_as, PlainAt}
-use Rattle.bitcursor.proofs.Laws.{value_of, short_of, cut_of, plain_of, short_plain_of}
-use borrow.Author.Rules.{rules}
+use Rattle.bitcursor.proofs.Laws.{then, then_not, exit}
 use Rattle.dec_packet.proofs.data_element.Goals as goal
 
-pub returns-in_default : goal.returns-in_default
-unfolding data_element bind told_as PlainAt
-returns-in_default c =
-    record { tells = rw (cut_of _ _ _ c.read-instance.ensures c.in_default.is); plain = c.requires }
+pub returns-in_err-_instance : goal.returns-in_err-_instance
+unfolding data_element
+returns-in_err-_instance c = then_not _ c.read.ensures c.in_err-_instance.was (exit _ c.from_residual.ensures.1)
 
-pub returns-in_default-asked : goal.returns-in_default-asked
-unfolding data_element bind told_as PlainAt
-returns-in_default-asked c =
-    let r = c.read-instance.ensures in
-    record { tells = rw (value_of r c.in-Value.is, cut_of _ _ _ c.read_bit-asked.ensures c.in_default-asked.is); plain = plain_of r c.in-Value.is }
+pub returns-in_err-asked : goal.returns-in_err-asked
+unfolding data_element
+returns-in_err-asked c =
+    then _ c.read.ensures c.in_ok-_instance.was (then_not _ c.read_bit.ensures c.in_err-asked.was (exit _ c.from_residual-in_err-asked.ensures.1))
 
-pub data_bytes-requires : goal.data_bytes-requires
-data_bytes-requires c =
-    plain_of c.data_count-counted.ensures c.in-Value-counted.is
+pub returns-in_err-bytes : goal.returns-in_err-bytes
+unfolding data_element
+returns-in_err-bytes c =
+    then _ c.read.ensures c.in_ok-_instance.was
+    (then _ c.read_bit.ensures c.in_ok-asked.was (then_not _ c.data_count.ensures c.in_err-bytes.was (exit _ c.from_residual-in_err-bytes.ensures.1)))
 
-pub returns-in-Short : goal.returns-in-Short
-unfolding data_element bind told_as PlainAt
-returns-in-Short c =
-    let s = c.data_count-counted.ensures in
-    record { tells = rw (value_of c.read-instance.ensures c.in-Value.is, value_of c.read_bit-asked.ensures c.in-Value-asked.is, short_of s c.in-Short.is); plain = short_plain_of s c.in-Short.is }
-
-pub returns-in-Value-counted : goal.returns-in-Value-counted
-unfolding data_element bind
-returns-in-Value-counted c =
-    rw (value_of c.read-instance.ensures c.in-Value.is, value_of c.read_bit-asked.ensures c.in-Value-asked.is, value_of c.data_count-counted.ensures c.in-Value-counted.is) c.data_bytes.ensures
+pub returns : goal.returns
+unfolding data_element
+returns c = then _ c.read.ensures c.in_ok-_instance.was (then _ c.read_bit.ensures c.in_ok-asked.was (then _ c.data_count.ensures c.in_ok-bytes.was c.data_bytes.ensures))

@@ -1,19 +1,25 @@
--- `end_element` meets its contract: alignment first, then 17.
-use native.Mathlib.Omega.{arith}
-use Rattle.rules.specs.Bits.{bit_of, bits_of}
-use Rattle.bitcursor.proofs.Laws.{reached_plain_of}
-use Rattle.dec_packet.proofs.Laws.{refused_turning, end_cut, end_few, end_done, ended_turning}
-use borrow.Author.Rules.{rules}
+-- The edge first, then 17.
+use Rattle.std.specs.Prelude.{◌≡◌, refl, ℕ, Option, None, Some}
+use Rattle.std.specs.Option.{unwrap_or}
+use borrow.Author.Tests.{le-leb, lt-leb}
+use Rattle.rules.specs.Packet.{number_known, end_element}
+use Rattle.bitcursor.proofs.Laws.{then, then_not, holds, fails, gives, exit}
 use Rattle.dec_packet.proofs.end_element.Goals as goal
 
-pub returns-in_default : goal.returns-in_default
-returns-in_default c =
-    λ scr. refused_turning _ _ scr c.args.at (end_cut (bits_of c.args.packet.now) c.args.s c.args.st.channels c.args.st.samples (bit_of c.args.at) c.skip_to_byte-edge.ensures c.in_default.is) c.requires
+known : (m : Option ℕ) → unwrap_or m 0 ≡ number_known m
+known None = refl
+known (Some n) = refl
+
+pub returns-in_err-skip_to_byte : goal.returns-in_err-skip_to_byte
+unfolding end_element
+returns-in_err-skip_to_byte c = then_not _ c.skip_to_byte.ensures c.in_err-skip_to_byte.was (exit _ c.from_residual.ensures.1)
 
 pub returns-then-st-s : goal.returns-then-st-s
-returns-then-st-s c =
-    λ scr. let r = c.skip_to_byte-edge.ensures in refused_turning _ _ scr _ (end_few (bits_of c.args.packet.now) c.args.s c.args.st.channels c.args.st.samples (bit_of c.args.at) r c.in-At.is c.if-st-s.true) (reached_plain_of r c.in-At.is)
+unfolding end_element
+returns-then-st-s c = then _ c.skip_to_byte.ensures c.in_ok-skip_to_byte.was (fails _ _ (lt-leb _ _ c.if-st-s.true))
 
 pub returns : goal.returns
+unfolding end_element
 returns c =
-    λ scr. let r = c.skip_to_byte-edge.ensures in rw c.number_known.ensures (ended_turning _ _ (end_done (bits_of c.args.packet.now) c.args.s c.args.st.channels c.args.st.samples (bit_of c.args.at) r c.in-At.is (omega (arith, c.if-st-s.false))) (reached_plain_of r c.in-At.is) scr)
+    rw (c.unwrap_or.ensures, known c.args.st.samples)
+    (then _ c.skip_to_byte.ensures c.in_ok-skip_to_byte.was (holds _ _ (le-leb _ _ c.if-st-s.false) gives))

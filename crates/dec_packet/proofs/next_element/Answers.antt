@@ -1,23 +1,10 @@
--- `next_element` meets its contract: a refusal's scratch is cleared, any other is as it was kept.
-use Rattle.dec_packet.proofs.Laws.{Went, turned_on, turned_refused}
-use borrow.Author.Rules.{rules}
+-- A refusal's scratch is cleared, any other is as it was kept.
+use mathlib.Core.Path.{sym, ◌∙◌}
+use Rattle.dec_packet.proofs.Laws.{turned_on, turned_refused}
 use Rattle.dec_packet.proofs.next_element.Goals as goal
 
-pub returns-in-Audio : goal.returns-in-Audio
-unfolding Went
-returns-in-Audio c =
-    turned_on _ _ _ _ _ (rw c.in-Audio.is at c.tagged_element-element.ensures) tt
+pub returns-then-is_err : goal.returns-then-is_err
+returns-then-is_err c = turned_refused c.tagged_element-element.ensures (sym c.is_err.ensures.value ∙ c.if-is_err.true) c.clear.ensures
 
-pub returns-in-Passed : goal.returns-in-Passed
-unfolding Went
-returns-in-Passed c =
-    turned_on _ _ _ _ _ (rw c.in-Passed.is at c.tagged_element-element.ensures) tt
-
-pub returns-in-End : goal.returns-in-End
-unfolding Went
-returns-in-End c =
-    turned_on _ _ _ _ _ (rw c.in-End.is at c.tagged_element-element.ensures) tt
-
-pub returns-in-Refused : goal.returns-in-Refused
-returns-in-Refused c =
-    turned_refused _ _ _ _ _ (rw c.in-Refused.is at c.tagged_element-element.ensures) c.clear_i32.ensures
+pub returns-else-is_err : goal.returns-else-is_err
+returns-else-is_err c = turned_on c.tagged_element-element.ensures (sym c.is_err.ensures.value ∙ c.if-is_err.false)

@@ -1,30 +1,25 @@
--- `sound_element` meets its contract: 5 before the element, 15 after it.
-use Prim.Native.Nat.{◌+◌, ◌≤◌}
-use mathlib.Core.Path.{sym, ◌∙◌}
-use native.Mathlib.Omega.{arith}
-use Rattle.rules.specs.Bits.{bit_of, bits_of}
-use Rattle.dec_packet.proofs.Laws.{refused_turning, sound_room, sound_many, samples_le, heard_refused, heard-agrees, heard_disagrees}
-use borrow.Author.Rules.{rules}
+-- 5 before the element, 15 after it.
+use mathlib.Core.Path.{◌∙◌}
+use borrow.Author.Tests.{eq-eqb, ne_eqb}
+use Rattle.bitcursor.proofs.Laws.{exit}
+use Rattle.dec_packet.proofs.Laws.{agrees_known, sound_room, sound_many, samples_le, heard_refused, heard-agrees, heard_disagrees}
 use Rattle.dec_packet.proofs.sound_element.Goals as goal
 
 pub returns-then-s-st : goal.returns-then-s-st
-returns-then-s-st c =
-    refused_turning _ _ _ c.args.at (sound_many (bits_of c.args.packet.now) c.args.s c.args.st.channels c.args.channels c.args.st.samples (bit_of c.args.at) c.if-s-st.true) c.requires.plain
+returns-then-s-st c = sound_many _ _ c.if-s-st.true
 
-pub returns-in-Refused : goal.returns-in-Refused
-returns-in-Refused c =
-    let le : c.args.st.channels + c.args.channels ≤ c.args.s.num_channels = omega (arith, c.if-s-st.false) in
-    let h = rw c.in-Refused.is at c.decode_audio_element-heard.ensures in
-    rw (sound_room (bits_of c.args.packet.now) c.args.s c.args.st.channels c.args.channels c.args.st.samples (bit_of c.args.at) le) (heard_refused c.args.s c.args.st.channels c.args.channels c.args.st.samples c.args.scratch.now _ c.requires.some c.requires.two le c.requires.can.room _ h)
+pub returns-in_err-samples : goal.returns-in_err-samples
+returns-in_err-samples c =
+    rw (exit _ c.from_residual.ensures.1) (sound_room _ _ c.if-s-st.false (heard_refused _ _ _ _ c.decode_audio_element.ensures c.requires.can.room c.in_err-samples.was))
 
-pub returns-then-agree : goal.returns-then-agree
-returns-then-agree c =
-    let le : c.args.st.channels + c.args.channels ≤ c.args.s.num_channels = omega (arith, c.if-s-st.false) in
-    let h = rw c.in-Samples.is at c.decode_audio_element-heard.ensures in
-    rw (sound_room (bits_of c.args.packet.now) c.args.s c.args.st.channels c.args.channels c.args.st.samples (bit_of c.args.at) le) (heard-agrees c.args.s c.args.st.channels c.args.channels c.args.st.samples c.args.scratch.now _ c.requires.some c.requires.two le c.requires.can.room _ _ _ h (samples_le (bits_of c.args.packet.now) c.args.s c.args.channels (bit_of c.args.at) _ _ c.requires.some h) (sym c.agree.ensures ∙ c.if-agree.true))
+pub returns-then-known-samples : goal.returns-then-known-samples
+returns-then-known-samples c =
+    let differ = agrees_known c.args.st.samples _ ∙ rw (← c.unwrap_or-known.ensures) (ne_eqb _ _ c.if-known-samples.true) in
+    sound_room _ _ c.if-s-st.false (heard_disagrees _ _ _ _ c.decode_audio_element.ensures c.requires.can.room c.in_ok-samples.was c.requires.some c.requires.two differ)
 
-pub returns-else-agree : goal.returns-else-agree
-returns-else-agree c =
-    let le : c.args.st.channels + c.args.channels ≤ c.args.s.num_channels = omega (arith, c.if-s-st.false) in
-    let h = rw c.in-Samples.is at c.decode_audio_element-heard.ensures in
-    rw (sound_room (bits_of c.args.packet.now) c.args.s c.args.st.channels c.args.channels c.args.st.samples (bit_of c.args.at) le) (heard_disagrees c.args.s c.args.st.channels c.args.channels c.args.st.samples c.args.scratch.now _ c.requires.some c.requires.two le c.requires.can.room _ _ _ h (sym c.agree.ensures ∙ c.if-agree.false))
+pub returns : goal.returns
+returns c =
+    let agreed = agrees_known c.args.st.samples _ ∙ rw (← c.unwrap_or-known.ensures) (eq-eqb _ _ c.if-known-samples.false) in
+    let short = samples_le _ _ c.requires.some c.decode_audio_element.ensures c.in_ok-samples.was in
+    sound_room _ _ c.if-s-st.false
+    (heard-agrees _ _ _ _ c.decode_audio_element.ensures c.requires.can.room c.in_ok-samples.was c.requires.some c.requires.two c.if-s-st.false short agreed)

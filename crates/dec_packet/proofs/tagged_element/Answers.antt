@@ -1,71 +1,53 @@
--- `tagged_element` meets its contract: each of the eight tags goes its way.
-use native.Mathlib.Omega.{arith}
-use Rattle.rules.specs.Answers.{bind}
-use Rattle.rules.specs.Bits.{bit_of, bits_of}
-use Rattle.rules.specs.Packet.{turn}
-use Rattle.bitcursor.proofs.Laws.{value_of, cut_of, plain_of}
-use Rattle.dec_packet.proofs.Laws.{refused_turning, aside_turning, tag_single, tag_pair, tag_unsupported, tag_data, tag_fill, tag_end}
+-- Each of the eight tags goes its way.
+use Prim.Native.Nat.{◌<◌}
+use mathlib.Core.Path.{refl}
 use borrow.Author.Rules.{rules}
+use Rattle.rules.specs.Packet.{passed, turn}
+use Rattle.bitcursor.proofs.Laws.{then_not, exit}
+use Rattle.dec_packet.specs.declared.Element.{Element}
+use Rattle.dec_packet.proofs.Laws.{refused_turning, passed_turning, end_turning, tag_then, tag_single, tag_pair, tag_unsupported, tag_data, tag_fill, tag_end}
 use Rattle.dec_packet.proofs.tagged_element.Goals as goal
 
-pub returns-in_default : goal.returns-in_default
-unfolding turn bind
-returns-in_default c =
-    refused_turning _ _ _ c.args.st.at (rw (cut_of _ _ _ c.read-got.ensures c.in_default.is)) c.requires.plain
+pub returns-in_err-tag : goal.returns-in_err-tag
+unfolding turn
+returns-in_err-tag c =
+    let e = exit _ c.from_residual.ensures.1 in
+    rw e (refused_turning {g = λ (x : Element). passed} (then_not _ c.read.ensures c.in_err-tag.was e) e)
 
-pub sound_element-requires : goal.sound_element-requires
-sound_element-requires c =
-    record { can = c.requires; some = omega arith; two = omega arith; plain = plain_of c.read-got.ensures c.in-Value.is }
+pub returns-in_err-data_element-in-4 : goal.returns-in_err-data_element-in-4
+returns-in_err-data_element-in-4 c =
+    rw (exit _ c.from_residual-in_err-data_element-in-4.ensures.1)
+    (tag_then _ c.read.ensures c.in_ok-tag.was (tag_data _ c.in-4.is (refused_turning c.data_element.ensures c.in_err-data_element-in-4.was)))
 
-pub sound_element-requires-in-1 : goal.sound_element-requires-in-1
-sound_element-requires-in-1 c =
-    record { can = c.requires; some = omega arith; two = omega arith; plain = plain_of c.read-got.ensures c.in-Value.is }
+pub returns-in_err-fill_element-in-6 : goal.returns-in_err-fill_element-in-6
+returns-in_err-fill_element-in-6 c =
+    rw (exit _ c.from_residual-in_err-fill_element-in-6.ensures.1)
+    (tag_then _ c.read.ensures c.in_ok-tag.was (tag_fill _ c.in-6.is (refused_turning c.fill_element.ensures c.in_err-fill_element-in-6.was)))
 
-pub data_element-requires : goal.data_element-requires
-data_element-requires c =
-    plain_of c.read-got.ensures c.in-Value.is
-
-pub fill_element-requires : goal.fill_element-requires
-fill_element-requires c =
-    plain_of c.read-got.ensures c.in-Value.is
-
-pub end_element-requires : goal.end_element-requires
-end_element-requires c =
-    plain_of c.read-got.ensures c.in-Value.is
+pub returns-in_err-end_element-in_default : goal.returns-in_err-end_element-in_default
+returns-in_err-end_element-in_default c =
+    let last : 6 < c.in_ok-tag.tag = search rules in
+    rw (exit _ c.from_residual-in_err-end_element-in_default.ensures.1)
+    (tag_then _ c.read.ensures c.in_ok-tag.was (tag_end _ last (refused_turning c.end_element.ensures c.in_err-end_element-in_default.was)))
 
 pub returns-in-0 : goal.returns-in-0
-unfolding turn bind
-returns-in-0 c =
-    let v = value_of c.read-got.ensures c.in-Value.is in
-    rw (v, tag_single (bits_of c.args.packet.now) c.args.s c.args.st.channels c.args.st.samples c.in-Value.tag (bit_of c.in-Value.next) c.in-0.is) c.sound_element.ensures
+returns-in-0 c = tag_then _ c.read.ensures c.in_ok-tag.was (tag_single _ c.in-0.is c.sound_element.ensures)
 
 pub returns-in-1 : goal.returns-in-1
-unfolding turn bind
-returns-in-1 c =
-    let v = value_of c.read-got.ensures c.in-Value.is in
-    rw (v, tag_pair (bits_of c.args.packet.now) c.args.s c.args.st.channels c.args.st.samples c.in-Value.tag (bit_of c.in-Value.next) c.in-1.is) c.sound_element-in-1.ensures
+returns-in-1 c = tag_then _ c.read.ensures c.in_ok-tag.was (tag_pair _ c.in-1.is c.sound_element-in-1.ensures)
 
 pub returns-in-2 : goal.returns-in-2
-unfolding turn bind
-returns-in-2 c =
-    let v = value_of c.read-got.ensures c.in-Value.is in refused_turning _ _ _ _ (rw (v, tag_unsupported (bits_of c.args.packet.now) c.args.s c.args.st.channels c.args.st.samples c.in-Value.tag (bit_of c.in-Value.next) c.in-2.is)) (plain_of c.read-got.ensures c.in-Value.is)
+returns-in-2 c = tag_then _ c.read.ensures c.in_ok-tag.was (tag_unsupported _ c.in-2.is)
 
-pub returns-in-4 : goal.returns-in-4
-unfolding turn bind
-returns-in-4 c =
-    let v = value_of c.read-got.ensures c.in-Value.is in
-    rw (v, tag_data (bits_of c.args.packet.now) c.args.s c.args.st.channels c.args.st.samples c.in-Value.tag (bit_of c.in-Value.next) c.in-4.is, c.passed_by.ensures) (aside_turning _ _ _ _ c.data_element.ensures)
+pub returns-in_ok-data_element-in-4 : goal.returns-in_ok-data_element-in-4
+returns-in_ok-data_element-in-4 c =
+    tag_then _ c.read.ensures c.in_ok-tag.was (tag_data _ c.in-4.is (passed_turning c.data_element.ensures c.in_ok-data_element-in-4.was refl))
 
-pub returns-in-6 : goal.returns-in-6
-unfolding turn bind
-returns-in-6 c =
-    let v = value_of c.read-got.ensures c.in-Value.is in
-    rw (v, tag_fill (bits_of c.args.packet.now) c.args.s c.args.st.channels c.args.st.samples c.in-Value.tag (bit_of c.in-Value.next) c.in-6.is, c.passed_by-in-6.ensures) (aside_turning _ _ _ _ c.fill_element.ensures)
+pub returns-in_ok-fill_element-in-6 : goal.returns-in_ok-fill_element-in-6
+returns-in_ok-fill_element-in-6 c =
+    tag_then _ c.read.ensures c.in_ok-tag.was (tag_fill _ c.in-6.is (passed_turning c.fill_element.ensures c.in_ok-fill_element-in-6.was refl))
 
-pub returns-in_default-tag : goal.returns-in_default-tag
-unfolding turn bind
-returns-in_default-tag c =
-    let v = value_of c.read-got.ensures c.in-Value.is in
-    let x = c.in_default-tag.in_default-tag-own.rest in
-    rw (v, tag_end (bits_of c.args.packet.now) c.args.s c.args.st.channels c.args.st.samples c.in-Value.tag (bit_of c.in-Value.next) x.0.0.0.0.1 x.0.0.0.1 x.0.0.1 x.0.1 x.1)
-    (c.end_element.ensures _)
+pub returns-in_ok-end_element-in_default : goal.returns-in_ok-end_element-in_default
+returns-in_ok-end_element-in_default c =
+    let last : 6 < c.in_ok-tag.tag = search rules in
+    tag_then _ c.read.ensures c.in_ok-tag.was (tag_end _ last (end_turning c.end_element.ensures c.in_ok-end_element-in_default.was refl))

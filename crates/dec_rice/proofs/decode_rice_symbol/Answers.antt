@@ -1,96 +1,70 @@
--- `decode_rice_symbol` meets its contract: the bounds that keep its sums in a word, and a law for each return.
-use Rattle.std.proofs.Common.{ℕ, List, ◌≡◌, ◌-◌, ◌*◌, ◌^◌, ◌<◌, ◌≤◌, mul-le-mul, arith, pow_mono}
-use Rattle.rules.specs.declared.Place.{Place}
-use Rattle.rules.specs.Bits.{bit_of, bits_of, field}
-use Rattle.rules.specs.Symbol.{ones, symbol}
-use Rattle.bitcursor.specs.declared.Got.{Got}
-use Rattle.bitcursor.specs.declared.Got.TheVariants.{Value}
-use Rattle.bitcursor.specs.Reads.{Reads}
-use Rattle.bitcursor.proofs.Laws.{value_of, plain_of, read_lt}
-use Rattle.dec_rice.proofs.Symbols.{AtMost, ones_most, read_ends, read_on, after_nine, after_alone, high_cut, high_zero, low_cut, low_value}
+-- The ones, then what the rules read after so many; and the bounds that keep the sums in a word.
+use Rattle.std.proofs.Common.{◌≡◌, ◌-◌, suc, arith, eq-eqb, ne_eqb}
+use Rattle.rules.specs.Symbol.{rest, symbol}
+use Rattle.bitcursor.proofs.Laws.{then, then_not, gives, exit, read_lt}
+use Rattle.dec_rice.proofs.Symbols.{ones_product, high_lt}
 use Rattle.dec_rice.proofs.decode_rice_symbol.Goals as goal
 
-pub returns-in_default : goal.returns-in_default
+pub returns-in_err-q : goal.returns-in_err-q
 unfolding symbol
-returns-in_default c = read_ends c.count_ones-count.ensures _ c.in_default.is
+returns-in_err-q c = then_not _ c.count_ones.ensures c.in_err-q.was (exit _ c.from_residual.ensures.1)
 
 pub returns-then-q-eq9 : goal.returns-then-q-eq9
 unfolding symbol
-returns-then-q-eq9 c =
-    read_on c.count_ones-count.ensures _ c.in-Value.is (rw (after_nine _ _ _ _ _ _ c.if-q-eq9.true) c.read.ensures)
+returns-then-q-eq9 c = then _ c.count_ones.ensures c.in_ok-q.was (rw (eq-eqb _ _ c.if-q-eq9.true) c.read.ensures)
 
 pub returns-then-k-eq1 : goal.returns-then-k-eq1
-unfolding symbol
-returns-then-k-eq1 c =
-    read_on c.count_ones-count.ensures _ c.in-Value.is (after_alone _ _ _ _ _ c.if-q-eq9.false c.if-k-eq1.true (plain_of c.count_ones-count.ensures c.in-Value.is))
+unfolding symbol rest
+returns-then-k-eq1 c = then _ c.count_ones.ensures c.in_ok-q.was (rw (ne_eqb _ _ c.if-q-eq9.false, eq-eqb _ _ c.if-k-eq1.true) gives)
 
-pub returns-in_default-high : goal.returns-in_default-high
-unfolding symbol
-returns-in_default-high c =
-    read_on c.count_ones-count.ensures _ c.in-Value.is (high_cut _ _ _ _ _ c.if-q-eq9.false c.if-k-eq1.false _ c.read-high.ensures c.in_default-high.is)
-
--- q is at most 9, and so the product fits
-product : (packet : List ℕ) (at : Place) (m : ℕ) {count : Got} {q : ℕ} {next : Place} → m ≤ 65535
-    → Reads (ones (bits_of packet) 9 (bit_of at)) count → count ≡ Value q next → q * m ≤ 589815
-unfolding AtMost
-product packet at m h r e = mul-le-mul (rw (value_of r e) at (ones_most (bits_of packet) 9 (bit_of at))) h
-
--- the remainder's upper bits
-upper : (packet : List ℕ) (k p : ℕ) {high : Got} {v : ℕ} {after : Place} → k ≤ 16
-    → Reads (field (bits_of packet) (k - 1) p) high → high ≡ Value v after → v < 32768
-upper packet k p h r e =
-    let w : 2 ^ (k - 1) ≤ 2 ^ 15 = pow_mono {i = k - 1} {j = 15} (omega arith) in
-    omega (arith, read_lt packet (k - 1) p (value_of r e))
+pub returns-in_err-high : goal.returns-in_err-high
+unfolding symbol rest
+returns-in_err-high c =
+    then _ c.count_ones.ensures c.in_ok-q.was
+    (rw (ne_eqb _ _ c.if-q-eq9.false, ne_eqb _ _ c.if-k-eq1.false)
+    (then_not _ c.read-2.ensures c.in_err-high.was (exit _ c.from_residual-in_err-high.ensures.1)))
 
 pub overflow_mul-result : goal.overflow_mul-result
-overflow_mul-result c =
-    let a = c.args in omega (arith, product a.packet.now a.at a.m (omega (arith, c.requires)) c.count_ones-count.ensures c.in-Value.is)
+overflow_mul-result c = omega (arith, ones_product c.count_ones.ensures c.in_ok-q.was c.requires.m_lt)
 
-pub returns-then-upper-eq0 : goal.returns-then-upper-eq0
-unfolding symbol
-returns-then-upper-eq0 c =
-    read_on c.count_ones-count.ensures _ c.in-Value.is (high_zero _ _ _ _ _ c.if-q-eq9.false c.if-k-eq1.false _ c.read-high.ensures c.in-Value-high.is c.if-upper-eq0.true)
+pub returns-then-high-eq0 : goal.returns-then-high-eq0
+unfolding symbol rest
+returns-then-high-eq0 c =
+    then _ c.count_ones.ensures c.in_ok-q.was
+    (rw (ne_eqb _ _ c.if-q-eq9.false, ne_eqb _ _ c.if-k-eq1.false)
+    (then _ c.read-2.ensures c.in_ok-high.was (rw c.if-high-eq0.true gives)))
 
-pub returns-in_default-last : goal.returns-in_default-last
-unfolding symbol
-returns-in_default-last c =
-    read_on c.count_ones-count.ensures _ c.in-Value.is
-    (low_cut _ _ _ _ _ c.if-q-eq9.false c.if-k-eq1.false _ c.read-high.ensures c.in-Value-high.is c.if-upper-eq0.false c.read_bit-last.ensures c.in_default-last.is)
+pub returns-in_err-low : goal.returns-in_err-low
+unfolding symbol rest
+returns-in_err-low c =
+    let more : c.in_ok-high.high ≡ suc (c.in_ok-high.high - 1) = omega arith in
+    then _ c.count_ones.ensures c.in_ok-q.was
+    (rw (ne_eqb _ _ c.if-q-eq9.false, ne_eqb _ _ c.if-k-eq1.false)
+    (then _ c.read-2.ensures c.in_ok-high.was
+    (rw more (then_not _ c.read_bit.ensures c.in_err-low.was (exit _ c.from_residual-in_err-low.ensures.1)))))
 
 pub overflow_mul-result-2 : goal.overflow_mul-result-2
-overflow_mul-result-2 c =
-    let a = c.args in
-    let product : c.in-Value.q * a.m ≤ 589815 = product a.packet.now a.at a.m (omega (arith, c.requires)) c.count_ones-count.ensures c.in-Value.is in
-    let upper : c.in-Value-high.upper < 32768 = upper a.packet.now a.k _ (omega (arith, c.requires)) c.read-high.ensures c.in-Value-high.is in
-    let lowest : c.in-Value-last.low < 2 = read_lt a.packet.now 1 _ (value_of c.read_bit-last.ensures c.in-Value-last.is) in
-    omega arith
+overflow_mul-result-2 c = omega (arith, ones_product c.count_ones.ensures c.in_ok-q.was c.requires.m_lt)
 
 pub overflow_mul-result-3 : goal.overflow_mul-result-3
-overflow_mul-result-3 c =
-    let a = c.args in
-    let product : c.in-Value.q * a.m ≤ 589815 = product a.packet.now a.at a.m (omega (arith, c.requires)) c.count_ones-count.ensures c.in-Value.is in
-    let upper : c.in-Value-high.upper < 32768 = upper a.packet.now a.k _ (omega (arith, c.requires)) c.read-high.ensures c.in-Value-high.is in
-    let lowest : c.in-Value-last.low < 2 = read_lt a.packet.now 1 _ (value_of c.read_bit-last.ensures c.in-Value-last.is) in
-    omega arith
+overflow_mul-result-3 c = omega (arith, high_lt c.read-2.ensures c.requires.k_le c.in_ok-high.was)
 
 pub overflow_add-result : goal.overflow_add-result
-overflow_add-result c =
-    let a = c.args in
-    let product : c.in-Value.q * a.m ≤ 589815 = product a.packet.now a.at a.m (omega (arith, c.requires)) c.count_ones-count.ensures c.in-Value.is in
-    let upper : c.in-Value-high.upper < 32768 = upper a.packet.now a.k _ (omega (arith, c.requires)) c.read-high.ensures c.in-Value-high.is in
-    let lowest : c.in-Value-last.low < 2 = read_lt a.packet.now 1 _ (value_of c.read_bit-last.ensures c.in-Value-last.is) in
-    omega arith
+overflow_add-result c = omega (arith, high_lt c.read-2.ensures c.requires.k_le c.in_ok-high.was, read_lt 1 c.read_bit.ensures c.in_ok-low.was)
 
 pub overflow_add-result-2 : goal.overflow_add-result-2
 overflow_add-result-2 c =
-    let a = c.args in
-    let product : c.in-Value.q * a.m ≤ 589815 = product a.packet.now a.at a.m (omega (arith, c.requires)) c.count_ones-count.ensures c.in-Value.is in
-    let upper : c.in-Value-high.upper < 32768 = upper a.packet.now a.k _ (omega (arith, c.requires)) c.read-high.ensures c.in-Value-high.is in
-    let lowest : c.in-Value-last.low < 2 = read_lt a.packet.now 1 _ (value_of c.read_bit-last.ensures c.in-Value-last.is) in
-    omega arith
+    omega (
+      arith,
+      ones_product c.count_ones.ensures c.in_ok-q.was c.requires.m_lt,
+      high_lt c.read-2.ensures c.requires.k_le c.in_ok-high.was,
+      read_lt 1 c.read_bit.ensures c.in_ok-low.was,
+    )
 
 pub returns : goal.returns
-unfolding symbol
+unfolding symbol rest
 returns c =
-    read_on c.count_ones-count.ensures _ c.in-Value.is
-    (low_value _ _ _ _ _ c.if-q-eq9.false c.if-k-eq1.false _ c.read-high.ensures c.in-Value-high.is c.if-upper-eq0.false c.read_bit-last.ensures c.in-Value-last.is)
+    let more : c.in_ok-high.high ≡ suc (c.in_ok-high.high - 1) = omega arith in
+    then _ c.count_ones.ensures c.in_ok-q.was
+    (rw (ne_eqb _ _ c.if-q-eq9.false, ne_eqb _ _ c.if-k-eq1.false)
+    (then _ c.read-2.ensures c.in_ok-high.was (rw more (then _ c.read_bit.ensures c.in_ok-low.was gives))))

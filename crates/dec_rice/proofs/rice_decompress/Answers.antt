@@ -1,11 +1,11 @@
--- `rice_decompress` meets its contract: the buffer is whole or it is cleared.
-use Rattle.dec_rice.proofs.Laws.{met_whole, met_refused}
+-- The buffer is whole or it is cleared.
+use Rattle.std.proofs.Common.{sym, ◌∙◌}
+use Rattle.dec_rice.proofs.Laws.{met_whole, met_cleared}
 use Rattle.dec_rice.proofs.rice_decompress.Goals as goal
 
-pub returns-in-Refused : goal.returns-in-Refused
-returns-in-Refused c =
-    met_refused c.read_samples-reached.ensures c.in-Refused.is
-    c.read_samples-reached.auto.buf c.clear_i32.ensures
+pub returns-then-is_err : goal.returns-then-is_err
+returns-then-is_err c =
+    met_cleared _ c.read_samples-answer.ensures (sym c.is_err.ensures.value ∙ c.if-is_err.true) c.read_samples-answer.auto.buf c.clear.ensures
 
-pub returns-in_default : goal.returns-in_default
-returns-in_default c = met_whole c.read_samples-reached.ensures c.in_default.is
+pub returns-else-is_err : goal.returns-else-is_err
+returns-else-is_err c = met_whole _ c.read_samples-answer.ensures (sym c.is_err.ensures.value ∙ c.if-is_err.false)

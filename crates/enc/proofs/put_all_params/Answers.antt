@@ -1,4 +1,4 @@
--- `put_all_params` meets its contract: one channel's parameters, or both.
+-- One channel's parameters, or both.
 use mathlib.Core.Path.{◌≡◌}
 use mathlib.Core.List.{append-nil}
 use native.Mathlib.Omega.{arith}
@@ -9,17 +9,12 @@ use Rattle.enc_bits.proofs.Sent.{sent_sent, sent_ready}
 use Rattle.enc.proofs.Parts.{first-told, second-told}
 use Rattle.enc.proofs.put_all_params.Goals as goal
 
-pub returns-then-s-eq1 : goal.returns-then-s-eq1
-unfolding joined
-returns-then-s-eq1 c = rw (c.if-s-eq1.true, append-nil) c.put_params-one.ensures
-
-pub put_params-requires : goal.put_params-requires
-put_params-requires c =
+pub put_params-requires-then-s-eq2 : goal.put_params-requires-then-s-eq2
+put_params-requires-then-s-eq2 c =
     let p = c.requires in
-    let two : c.args.s.num_channels ≡ 2 = omega (arith, c.if-s-eq1.false, p.some, p.two) in
     let g = first-told _ c.args.t p.settings p.some in
-    let f = second-told _ c.args.t p.settings two in
-    let d = c.put_params-one.ensures in
+    let f = second-told _ c.args.t p.settings c.if-s-eq2.true in
+    let d = c.put_params.ensures in
     let l = params-length c.args.t.first in
     let k = length-take c.args.t.first.order c.args.t.first.coefs in
     record {
@@ -29,9 +24,12 @@ put_params-requires c =
       order_le = f.order_le;
     }
 
-pub returns : goal.returns
+pub returns-then-s-eq2 : goal.returns-then-s-eq2
 unfolding joined
-returns c =
-    let p = c.requires in
-    let two : c.args.s.num_channels ≡ 2 = omega (arith, c.if-s-eq1.false, p.some, p.two) in
-    rw (two, append-nil) (sent_sent _ _ c.put_params-one.ensures c.put_params.ensures)
+returns-then-s-eq2 c = rw (c.if-s-eq2.true, append-nil) (sent_sent _ _ c.put_params.ensures c.put_params-then-s-eq2.ensures)
+
+pub returns-else-s-eq2 : goal.returns-else-s-eq2
+unfolding joined
+returns-else-s-eq2 c =
+    let one : c.args.s.num_channels ≡ 1 = omega (arith, c.if-s-eq2.false, c.requires.some, c.requires.two) in
+    rw (one, append-nil) c.put_params.ensures

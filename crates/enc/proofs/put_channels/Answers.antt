@@ -1,4 +1,4 @@
--- `put_channels` meets its contract: one channel's Rice data, or both.
+-- One channel's Rice data, or both.
 use mathlib.Core.Path.{◌≡◌, ◌∙◌}
 use mathlib.Core.List.{append-nil}
 use native.Mathlib.Omega.{arith}
@@ -14,37 +14,36 @@ use Rattle.laws.specs.Reader.{cleared-cleared}
 use Rattle.enc.proofs.Parts.{first-told, second-told, codes_one, codes_two}
 use Rattle.enc.proofs.put_channels.Goals as goal
 
-pub returns-then-s-eq1 : goal.returns-then-s-eq1
-returns-then-s-eq1 c =
-    let a = c.args in
-    record { sent = rw (codes_one a.s a.t a.passage.now c.if-s-eq1.true, append-nil) c.put_channel-one.ensures.sent; left = c.put_channel-one.ensures.left }
-
-pub put_channel-requires : goal.put_channel-requires
-put_channel-requires c =
+pub put_channel-requires-then-s-eq2 : goal.put_channel-requires-then-s-eq2
+put_channel-requires-then-s-eq2 c =
     let a = c.args in
     let p = c.requires in
     let f = p.passes in
-    let two : a.s.num_channels ≡ 2 = omega (arith, c.if-s-eq1.false, f.channels_ge, f.channels_le) in
+    let two = c.if-s-eq2.true in
     let xs = lane_of a.s a.t a.passage.now 0 in
     let short = channel-length a.s (written_bits a.s a.t) f.mb_lt (written_bits_lem a.s a.t a.passage.now f).1 a.t.first xs (first-told _ a.t f.channels_in f.channels_ge) in
     let xs-length : length xs ≡ samples_of a.s a.passage.now = lane-length f f.channels_ge in
-    let d = c.put_channel-one.ensures.sent in
+    let d = c.put_channel.ensures.sent in
     record {
       passes = f;
       settings = second-told _ a.t f.channels_in two;
       there = omega (arith, two);
-      places = rw (c.put_channel-one.ensures.left, laid-length) p.places;
+      places = rw (c.put_channel.ensures.left, laid-length) p.places;
       ready = sent_ready d (omega (arith, p.room, p.ready.few, short, xs-length, f.rows_le, f.frame_le));
       room = omega (arith, d.size, p.room, p.ready.few, short, xs-length, f.rows_le, f.frame_le);
     }
 
-pub returns : goal.returns
-returns c =
+pub returns-then-s-eq2 : goal.returns-then-s-eq2
+returns-then-s-eq2 c =
     let a = c.args in
-    let p = c.requires in
-    let f = p.passes in
-    let two : a.s.num_channels ≡ 2 = omega (arith, c.if-s-eq1.false, f.channels_ge, f.channels_le) in
     record {
-      sent = rw (codes_two a.s a.t a.passage.now two, append-nil) (sent_sent _ _ c.put_channel-one.ensures.sent c.put_channel.ensures.sent);
-      left = c.put_channel.ensures.left ∙ (rw c.put_channel-one.ensures.left (cleared-cleared (pos 0) _ a.scratch.now p.places));
+      sent = rw (codes_two a.s a.t a.passage.now c.if-s-eq2.true, append-nil) (sent_sent _ _ c.put_channel.ensures.sent c.put_channel-then-s-eq2.ensures.sent);
+      left = c.put_channel-then-s-eq2.ensures.left ∙ (rw c.put_channel.ensures.left (cleared-cleared (pos 0) _ a.scratch.now c.requires.places));
     }
+
+pub returns-else-s-eq2 : goal.returns-else-s-eq2
+returns-else-s-eq2 c =
+    let a = c.args in
+    let f = c.requires.passes in
+    let one : a.s.num_channels ≡ 1 = omega (arith, c.if-s-eq2.false, f.channels_ge, f.channels_le) in
+    record { sent = rw (codes_one a.s a.t a.passage.now one, append-nil) c.put_channel.ensures.sent; left = c.put_channel.ensures.left }

@@ -10,6 +10,3 @@ use Rattle.enc_channel.proofs.oldest_first.Given as goal
 abbrev pub invariant-loop-j : goal.invariant-loop-j
 invariant-loop-j l =
     (length l.coefs ≡ 30) × Turning (reverse (take l.order l.newest_first) ++ replicate (30 - l.order) (pos 0)) (take l.order l.newest_first) l.coefs l.order l.j
-
-abbrev pub decreases-loop-j : goal.decreases-loop-j
-decreases-loop-j l = l.order - l.j

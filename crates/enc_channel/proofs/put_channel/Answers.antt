@@ -28,6 +28,6 @@ returns c =
     let zs-are = rw (sub-zero a.s.bit_depth) at c.fill.ensures in
     let zs-length : length (xs ++ es) ≡ n + n = omega (arith, length-append xs es) in
     record {
-      sent = rw (sub-zero a.s.bit_depth, channel_bits) (rw (zs-are, second_part xs es more xs-length es-length refl) at c.put_codes-done.ensures);
-      left = rw zs-are at c.clear_i32.ensures ∙ cleared_over (2 * a.s.frame_length) (xs ++ es) a.scratch.now zs-length (omega (arith, f.rows_le)) p.places;
+      sent = rw (sub-zero a.s.bit_depth, channel_bits) (rw (zs-are, second_part xs es more xs-length es-length refl) at c.put_codes.ensures);
+      left = rw zs-are at c.clear.ensures ∙ cleared_over (2 * a.s.frame_length) (xs ++ es) a.scratch.now zs-length (omega (arith, f.rows_le)) p.places;
     }

@@ -5,7 +5,7 @@ use Rattle.enc_rice.proofs.Turns.{Going}
 use Rattle.enc_rice.proofs.put_rice.Given as goal
 
 abbrev pub invariant-loop-i : goal.invariant-loop-i
-invariant-loop-i l = Going l.c l.residuals l.mb l.initial.bytes l.bytes l.initial.out l.out l.history l.plus l.i
+invariant-loop-i l = Going l.c l.residuals l.mb l.initial.bytes l.bytes l.initial.sink l.sink l.history l.plus l.i
 
 abbrev pub decreases-loop-i : goal.decreases-loop-i
 decreases-loop-i l = length l.residuals - l.i

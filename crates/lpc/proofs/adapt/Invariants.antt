@@ -11,6 +11,3 @@ invariant-loop-j l =
     (length l.lpc_coefs ≡ l.j-end)
     × (take l.j l.lpc_coefs ++ adapted l.lpc_quant l.mean l.error_sign l.j l.error (drop l.j l.xs) (drop l.j l.lpc_coefs)
     ≡ adapted l.lpc_quant l.mean l.error_sign 0 l.initial.error l.xs l.initial.lpc_coefs)
-
-abbrev pub decreases-loop-j : goal.decreases-loop-j
-decreases-loop-j l = l.j-end - l.j

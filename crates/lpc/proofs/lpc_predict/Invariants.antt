@@ -8,6 +8,3 @@ use Rattle.lpc.proofs.lpc_predict.Given as goal
 abbrev pub invariant-loop-i : goal.invariant-loop-i
 invariant-loop-i l =
     (1 ≤ l.i) × (length l.buf ≡ l.samples) × (length l.lpc_coefs ≡ length l.initial.lpc_coefs) × Going l.bps l.lpc_quant l.initial.lpc_coefs l.initial.buf l.i l.lpc_coefs l.buf
-
-abbrev pub decreases-loop-i : goal.decreases-loop-i
-decreases-loop-i l = l.samples - l.i

@@ -10,6 +10,3 @@ use Rattle.lpc.proofs.lpc_predict_order_31.Given as goal
 abbrev pub invariant-loop-i : goal.invariant-loop-i
 invariant-loop-i l =
     (1 ≤ l.i) × (length l.buf ≡ l.i-end) × (take l.i l.buf ++ summed_from l.bps (get_or l.buf (l.i - 1) (pos 0)) (drop l.i l.buf) ≡ summed l.bps l.initial.buf)
-
-abbrev pub decreases-loop-i : goal.decreases-loop-i
-decreases-loop-i l = l.i-end - l.i

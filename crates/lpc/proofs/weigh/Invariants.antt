@@ -9,6 +9,3 @@ use Rattle.lpc.proofs.weigh.Given as goal
 abbrev pub invariant-loop-j : goal.invariant-loop-j
 invariant-loop-j l =
     weighed l.mean l.predicted (drop l.j l.xs) (drop l.j l.lpc_coefs) ≡ weighed l.mean (pos 0) l.xs l.lpc_coefs
-
-abbrev pub decreases-loop-j : goal.decreases-loop-j
-decreases-loop-j l = l.j-end - l.j

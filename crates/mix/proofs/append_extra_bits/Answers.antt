@@ -5,12 +5,12 @@ use Rattle.mix.proofs.append_extra_bits.Goals.{then-channels-eq2, else-channels-
 
 pub loop-i-preserved : goal.loop-i-preserved
 loop-i-preserved c =
-    let a = c.requires in
     let l = c.loop-i-test.true in
-    let t = c.append_at-next.ensures in
+    let u = c.loop-i.invariant in
+    let t = c.append_at.ensures in
     elim c.if-channels-eq2.branch [
-      | then-channels-eq2 w ↦ rw (w.scratch-is, w.at-is) (appending_two a c.loop-i.invariant l w.if-channels-eq2.true t w.append_at-after.ensures)
-      | else-channels-eq2 w ↦ rw (w.scratch-is, w.at-is) (appending_one a c.loop-i.invariant l w.if-channels-eq2.false t)
+      | then-channels-eq2 w ↦ rw (w.scratch-is, w.extra-is) (appending_two c.requires u l w.if-channels-eq2.true t w.append_at-then-channels-eq2.ensures)
+      | else-channels-eq2 w ↦ rw (w.scratch-is, w.extra-is) (appending_one c.requires u l w.if-channels-eq2.false t)
     ]
 
 pub returns : goal.returns

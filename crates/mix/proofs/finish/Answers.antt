@@ -2,7 +2,6 @@
 use Prim.Native.Nat.{◌*◌}
 use mathlib.Core.Path.{◌∙◌}
 use lib.ListN.{drop}
-use Rattle.rules.specs.Bits.{bit_of, bits_of}
 use Rattle.rules.specs.Words.{signed}
 use Rattle.laws.specs.Shape.{numbers-length}
 use Rattle.mix.proofs.Finished.{both}
@@ -13,4 +12,4 @@ returns c =
     let count = c.args.n * c.args.channels in
     c.extend_all.ensures
     ∙ both c.args.half c.args.n c.args.channels c.args.scratch.now c.requires.roomy _ c.args.mix_bits (signed 8 c.args.mix_res) c.args.shift _
-    (numbers-length count c.args.shift (drop (bit_of c.args.extra) (bits_of c.args.packet.now))) c.unmix.ensures
+    (numbers-length count c.args.shift (drop c.args.extra.at c.args.extra.bits)) c.unmix.ensures

@@ -21,7 +21,7 @@ loop-i-preserved c =
     let wl : to_z w32 (of_z w32 (to_z w16 (of_z w16 left))) ≡ left = wide w16 w32 tt left (record { sfits = omega arith }) in
     let wr : to_z w32 (of_z w32 (to_z w16 (of_z w16 right))) ≡ right = wide w16 w32 tt right (record { sfits = omega arith }) in
     filling_next c.loop-i.invariant h (mixed-next _ _ _ _ _ _ c.requires.rows h)
-    (held32 c.mix_pair-sample.result c.mix_pair-sample.type_inv ∙ (rw (wl, wr) at c.mix_pair-sample.ensures))
+    (held32 c.mix_pair.result c.mix_pair.type_inv ∙ (rw (wl, wr) at c.mix_pair.ensures))
 
 pub returns : goal.returns
 returns c =

@@ -1,10 +1,6 @@
 -- What is mixed and what the rule makes of the pairs that are left is what it makes of all.
-use Prim.Native.Nat.{◌-◌}
 use Rattle.mix.proofs.PassageTurns.{Filling, mixed_from, mixed_lane}
 use Rattle.mix.proofs.mix_pairs.Given as goal
 
 abbrev pub invariant-loop-i : goal.invariant-loop-i
 invariant-loop-i l = Filling (mixed_lane l.mix_bits l.mix_res l.which l.passage) (mixed_from l.mix_bits l.mix_res l.which l.passage) l.initial.out l.out l.i
-
-abbrev pub decreases-loop-i : goal.decreases-loop-i
-decreases-loop-i l = l.i-end - l.i

@@ -7,4 +7,4 @@ use Rattle.settings.proofs.channel_of.Goals as goal
 pub returns : goal.returns
 unfolding channel_of
 returns c =
-    rw (c.coefs_of-coefs.ensures, part_to_end, c.field_at.ensures, c.field_at-2.ensures, c.field_at-3.ensures)
+    rw (c.coefs_of.ensures, part_to_end, c.field_at.ensures, c.field_at-2.ensures, c.field_at-3.ensures)

@@ -7,4 +7,4 @@ use Rattle.settings.proofs.with_second.Goals as goal
 pub returns : goal.returns
 unfolding with_second
 returns c =
-    rw (c.channel_of-first.ensures, part_to_end, c.field_at.ensures, c.field_at-2.ensures)
+    rw (c.channel_of.ensures, part_to_end, c.field_at.ensures, c.field_at-2.ensures)

@@ -1,11 +1,7 @@
--- Four bytes are two and two more.
-use native.Mathlib.Omega.{arith}
-use borrow.Author.Rules.{rules}
-use Rattle.stream.proofs.Cookie.{bytes_add, bytes_whole}
+-- The bytes, the highest first.
+use mathlib.Core.Path.{◌∙◌}
+use Rattle.laws.specs.Bytes.{be_four}
 use Rattle.stream.proofs.read_be_u32.Goals as goal
 
 pub returns : goal.returns
-returns c =
-    let start = c.before.before.before.before.before in
-    let buf = start.args.buf.now in
-    omega (arith, bytes_whole buf 4 start.requires, bytes_add buf 0 2 2 (omega arith), c.read_be_u16.ensures, c.read_be_u16-2.ensures)
+returns c = c.from_be_bytes.ensures ∙ be_four c.args.buf.now c.requires

@@ -1,21 +1,19 @@
 -- The first i samples are written after i turns.
-use Prim.Native.Nat.{◌-◌}
+use native.Mathlib.Nat.{mod-eq_of_lt}
 use native.Mathlib.Omega.{arith}
 use lib.IntN.{pos}
-use lib.ListN.{length, get_or, length-set}
-use borrow.Author.Rules.{rules}
-use Rattle.words.proofs.Laws.{held16}
-use Rattle.wire.proofs.Laws.{high_small, Writing, writing_start, writing_next, writing_done}
+use lib.ListN.{get_or}
+use mir.Syntax.{w16}
+use Rattle.words.proofs.Laws.{held16, bits_are}
+use Rattle.wire.proofs.Laws.{high_small, writing_next, writing_done}
 use Rattle.wire.proofs.bytes_of.Goals as goal
-
-pub overflow_cast-bytes-in-loop-i : goal.overflow_cast-bytes-in-loop-i
-overflow_cast-bytes-in-loop-i c = record { fits = high_small _ _ c.bits16_of-word.ensures }
 
 pub loop-i-preserved : goal.loop-i-preserved
 loop-i-preserved c =
-    let k = c.before.before.before in
-    let sample = get_or k.args.samples.now k.loop-i.i (pos 0) in
-    writing_next _ _ _ k.loop-i.invariant _ (omega arith) (rw (held16 sample c.bits16_of-arg-1.given) at c.bits16_of-word.ensures)
+    let sample = get_or c.args.samples.now c.loop-i.i (pos 0) in
+    let small = c.to_le_bytes-arg-1.given in
+    let word = bits_are w16 sample (record { sfits = small }) in
+    rw (c.to_le_bytes.ensures, held16 sample small, mod-eq_of_lt (high_small _ sample word)) (writing_next _ _ _ c.loop-i.invariant _ (omega arith) word)
 
 pub returns : goal.returns
 returns c = writing_done _ _ _ c.loop-i.invariant (omega arith)

@@ -1,12 +1,9 @@
--- The low 16 of the 32 bits.
-use mathlib.Core.Path.{sym}
-use mir.Syntax.{w16, w32}
-use borrow.Author.Rules.{rules}
-use Rattle.laws.specs.Words.{mod_z_down}
-use Rattle.words.proofs.Laws.{wide, wide_fits}
+-- As the library has it.
+use mathlib.Core.Path.{◌∙◌}
+use mir.Syntax.{w16}
+use mir.Facts.{to_z-of_z}
+use Rattle.words.proofs.Laws.{bits_are}
 use Rattle.words.proofs.bits16_of.Goals as goal
 
 pub returns : goal.returns
-returns c =
-    let x = c.args.c in
-    rw (c.bits_of.ensures, wide w16 w32 tt x c.ranges.c) (sym (mod_z_down 16 16 x))
+returns c = c.from.ensures ∙ (rw (to_z-of_z c.ranges.c) at c.cast_unsigned.ensures) ∙ bits_are w16 c.args.c c.ranges.c

@@ -1,14 +1,8 @@
--- By the two tests.
+-- As the library has it.
+use mathlib.Core.Path.{◌∙◌}
 use mir.Facts.{to_z-of_z}
-use Rattle.words.proofs.Laws.{sign_above, sign_below, sign_zero}
+use Rattle.words.proofs.Laws.{held32, sign_is}
 use Rattle.words.proofs.signum.Goals as goal
 
-pub returns-then-x-gt0 : goal.returns-then-x-gt0
-returns-then-x-gt0 c = sign_above c.args.x (rw (to_z-of_z c.ranges.x) at c.if-x-gt0.true)
-
-pub returns-then-x-lt0 : goal.returns-then-x-lt0
-returns-then-x-lt0 c = sign_below c.args.x (rw (to_z-of_z c.ranges.x) at c.if-x-lt0.true)
-
-pub returns-else-x-lt0 : goal.returns-else-x-lt0
-returns-else-x-lt0 c =
-    sign_zero c.args.x (rw (to_z-of_z c.ranges.x) at c.if-x-gt0.false) (rw (to_z-of_z c.ranges.x) at c.if-x-lt0.false)
+pub returns : goal.returns
+returns c = held32 _ c.signum.type_inv ∙ (rw (to_z-of_z c.ranges.x) at c.signum.ensures.value) ∙ sign_is c.args.x

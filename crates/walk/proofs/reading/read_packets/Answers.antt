@@ -5,4 +5,4 @@ use Rattle.walk.proofs.Laws.{small}
 use Rattle.walk.proofs.reading.read_packets.Goals as goal
 
 pub read_all-requires : goal.read_all-requires
-read_all-requires g c = small i16_output c.in-Stream.s (sym (c.accepted.ensures.says i16_output c.takes_i16.ensures) ∙ c.if-accepted.true)
+read_all-requires g c = small i16_output c.in_ok-s.s (sym c.accepts.ensures ∙ c.if-accepts.true)
