@@ -1,7 +1,7 @@
 // The boundary: the entries as a program in another language calls them, with the cookie's bytes and flat settings. alac_c exports these.
 #![tactic(auto)]
 
-ghost use Rattle.std.specs.Prelude.{◌≡◌, [], ◌∷◌};
+ghost use Rattle.std.specs.Prelude.{◌≡◌};
 ghost use Rattle.rules.specs.Refusals.{read_number, read_count, packed_number, packed_count};
 ghost use Rattle.alac.specs.Boundary.{Told, Handed, Worded, Written, fields_of};
 
@@ -11,7 +11,7 @@ use rules::{Decoded, Refusal, Refused, StreamInfo};
 use settings::settings_of;
 use stream::{Sample, from_cookie};
 
-// The fields in StreamInfo's order.
+// The fields in StreamInfo's order, as C takes them: no conversion by a trait, since the order is the interface.
 fn fields_of(s: StreamInfo) -> [u64; 11]
     ensures { result ≡ fields_of s }
 {

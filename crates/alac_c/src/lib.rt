@@ -1,4 +1,5 @@
-// The exported functions of libalac.a, each the one of crate alac. A slice is a pointer and a length; an array is a pointer. C has no generics, so each kind of output has a function.
+// The exported functions of libalac.a, each the one of crate alac. A slice is a pointer and a length; an array is a pointer.
+// C has no generics, so each kind of output has a function.
 #![tactic(auto)]
 
 ghost use Rattle.rules.specs.Stream.{i16_output, i32_output};

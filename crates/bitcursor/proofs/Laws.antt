@@ -9,22 +9,14 @@ use lib.ListN.{length, take, drop, get_or}
 use lib.Pow.{pow_mono}
 use borrow.Author.Tests.{le-leb, lt-leb, leb-true}
 use Rattle.std.specs.Prelude.{Result, Ok, Err, IsErrAnd}
-use Rattle.rules.specs.declared.Place.{Place}
 use Rattle.rules.specs.declared.Refusal.{Refusal}
 use Rattle.rules.specs.declared.Refusal.TheVariants as refusal
 use Rattle.rules.specs.Answers.{Ans, got, bad, pick, bind, Read, check, give}
-use Rattle.rules.specs.Bits.{place_of, num, bits_of, within, field, skip}
+use Rattle.rules.specs.Bits.{num, bits_of, within, field, skip}
 use Rattle.laws.specs.Bits.{length-bits_of}
 use Rattle.laws.specs.Bytes.{bit_of_lem, num-next, bit_lt, field_lt}
 use Rattle.bitcursor.specs.Cursor.{Cursor}
 use Rattle.bitcursor.specs.Reads.{told, Reads}
-
--- the place of a byte and a bit in it
-pub place_of_bit : (byte bit : ℕ) → bit < 8 → ◌≡◌ {A = Place} (record { byte = byte; bit = bit }) (place_of (byte * 8 + bit))
-place_of_bit byte bit l =
-    let b : byte ≡ (byte * 8 + bit) / 8 = omega arith in
-    let k : bit ≡ (byte * 8 + bit) % 8 = omega arith in
-    cc
 
 -- ---- reads and skips of the rules
 

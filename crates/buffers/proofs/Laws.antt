@@ -2,7 +2,7 @@
 use Prim.Native.Nat.{ℕ, zero, suc, ◌+◌, ◌*◌, ◌≤◌, ◌<◌}
 use mathlib.Core.Path.{◌≡◌, refl, sym, ap, ◌∙◌}
 use mathlib.Core.List.{List, [], ◌∷◌, ◌++◌, map}
-use native.Mathlib.Nat.{zero-mul, suc-mul, add-zero, mul-le-mul_right}
+use native.Mathlib.Nat.{zero-mul, suc-mul, add-zero}
 use native.Mathlib.Numerals.{add-one}
 use native.Mathlib.Omega.{arith}
 use lib.ListN.{length, get_or, drop, set, length-set, drop_of_length-le}
@@ -50,13 +50,6 @@ module _ {A B : Type 0} (keep : A → B) (z : A) (c first : ℕ) (from : List A)
   storing_start = record { i_le = omega arith; same = refl; go = rw (zero-mul c, add-zero first) refl }
 
   module _ (out : List B) (i : ℕ) (g : Storing out i) where
-    -- the place lies in the output
-    pub storing_in : first < c → length from * c ≤ length was → i < length from → first + i * c < length out
-    storing_in f r h =
-        let e : suc i * c ≤ length from * c = mul-le-mul_right c h in
-        let d = suc-mul i c in
-        omega (arith, g.same)
-
     pub storing_next : (y : B) → i < length from → y ≡ keep (get_or from i z) → Storing (set out (first + i * c) y) (i + 1)
     unfolding placed
     storing_next y h e =

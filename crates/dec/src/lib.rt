@@ -1,7 +1,7 @@
 // A packet read whole, for every kind of output.
 #![tactic(auto)]
 
-ghost use Rattle.std.specs.Prelude.{◌≡◌, map, length};
+ghost use Rattle.std.specs.Prelude.{◌≡◌, map};
 ghost use Rattle.rules.specs.Buffers.{stored};
 ghost use Rattle.rules.specs.Reader as reader;
 ghost use Rattle.buffers.specs.Halves.{parts};
@@ -69,6 +69,7 @@ fn read_all<S: Sample>(
         channels: 0,
         samples: None,
     };
+    // Until END: no range counts the elements.
     loop {
         let element = next_element(bits, s, st, scratch)?;
         match element {

@@ -6,8 +6,8 @@ use native.Mathlib.Omega.{arith}
 use lib.ListN.{length, replicate, take-append-drop}
 use lib.IntN.{pos}
 use Rattle.std.specs.Prelude.{Result, Option, None, Some, IfSome, IfOk, IsSomeAnd}
-use Rattle.rules.specs.declared.StreamInfo.{StreamInfo}
 use Rattle.rules.specs.declared.Refusal.{Refusal}
+use Rattle.rules.specs.Answers.{Read}
 use Rattle.rules.specs.Words.{mod_z}
 use Rattle.rules.specs.Element as rule
 use Rattle.laws.specs.Words.{mod_z-signed}
@@ -68,6 +68,6 @@ module _ {channels : ℕ} (n : OneOrTwo channels) where
       sym (second-from p.first p.second (second_settled p.second n i.alone i.pair)) ∙ ap second_from l ∙ second-from q.first q.second (second_settled q.second n j.alone j.pair) in
       ap₂ (λ (m k : ℕ). plan_with m k p.first p.second) a b ∙ ap₂ (λ (x : Parameters) (y : Option Parameters). plan_with q.mix_bits q.mix_res x y) c d
 
-  pub plan-same : (s : StreamInfo) {was is is' : Cursor} (r q : Result Plan Refusal) → Reads plan_of (λ packet. rule.planned packet s channels) was is r → Reads plan_of (λ packet. rule.planned packet s channels) was is' q
+  pub plan-same : {asked : List ℕ → Read rule.Plan} {was is is' : Cursor} (r q : Result Plan Refusal) → Reads plan_of asked was is r → Reads plan_of asked was is' q
       → IfOk r (AllowedPlan channels) → IfOk q (AllowedPlan channels) → (r ≡ q) × (is.at ≡ is'.at)
-  plan-same _ r q s t i j = reads_same r q (λ v w k l. plan-apart v w (rw k at i) (rw l at j)) s t
+  plan-same r q s t i j = reads_same r q (λ v w k l. plan-apart v w (rw k at i) (rw l at j)) s t

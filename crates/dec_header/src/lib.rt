@@ -19,7 +19,7 @@ pub struct Header {
     pub samples: u32,
 }
 
-// The sample number stands in a partial element; of any other it is the frame length.
+// The sample number stands in a partial element; of any other it is the frame length. `partial` is the bit as it was read.
 #[tactic(auto, unfolding(rules::specs::Element::sample_number, rules::specs::Answers::bind, bitcursor::specs::Reads::told))]
 fn read_sample_number(bits: &mut BitCursor<'_>, s: StreamInfo, partial: u32) -> Result<u32, Refusal>
     ensures reads { Reads (λ n. n) (λ packet. sample_number packet s partial) bits.old bits.new result }

@@ -4,8 +4,7 @@
 ghost use Rattle.std.specs.Prelude.{◌≡◌, ◌<◌, take, IfSome, IfOk};
 ghost use Rattle.rules.specs.Answers.{answered, times};
 ghost use Rattle.rules.specs.Bits.{field};
-ghost use Rattle.rules.specs.Words.{signed};
-ghost use Rattle.rules.specs.Element.{params, params_ok, mix_ok, planned};
+ghost use Rattle.rules.specs.Element.{params, params_ok, planned};
 ghost use Rattle.bitcursor.specs.Reads.{Reads};
 ghost use Rattle.dec_header.specs.Plan.{oldest_first, ZeroPast, Settled, params_of, OneOrTwo, plan_of, plan_ok, AllowedPlan};
 

@@ -30,6 +30,7 @@ fn data_count(bits: &mut BitCursor<'_>) -> Result<u32, Refusal>
     Ok(count + more)
 }
 
+// `asked` is the bit as it was read, and as the rules have it.
 fn align(bits: &mut BitCursor<'_>, asked: u32) -> Result<(), Refusal>
     ensures { Reads (λ u. u) (λ packet. aligned packet asked) bits.old bits.new result }
 {

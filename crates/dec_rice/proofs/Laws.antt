@@ -1,5 +1,5 @@
 -- How the promise of `rice_decompress` is met: the buffer is whole or it is cleared.
-use Rattle.std.proofs.Common.{◌≡◌, ℕ, true, false, List, length, replicate, ℤ, pos, Result, Ok, Err, is_err, ap, refl, ◌∙◌, append-nil, arith}
+use Rattle.std.proofs.Common.{◌≡◌, ℕ, true, false, List, length, replicate, ℤ, pos, Result, Ok, Err, is_err, ap, refl, sym, ◌∙◌, append-nil, arith}
 use lib.ListN.{length-replicate}
 use lib.Seq.{drop-length}
 use Rattle.rules.specs.declared.Refusal.{Refusal}
@@ -10,7 +10,7 @@ use Rattle.laws.specs.Answers.{answered_got, answered_bad}
 use Rattle.laws.specs.Buffers.{laid-all}
 use Rattle.bitcursor.specs.Cursor.{Cursor}
 use Rattle.bitcursor.specs.Reads.{told, Reads}
-use Rattle.bitcursor.proofs.Laws.{value_of, refused_of}
+use Rattle.bitcursor.proofs.Laws.{value_of, refused_of, reads_same}
 use Rattle.dec_rice.specs.Promise.{filled, Decompressed}
 use Rattle.dec_rice.specs.Steps.{residuals_of}
 
@@ -38,3 +38,10 @@ module _ {rule : List ℕ → Read RiceData} {was is : Cursor} {old buf : List �
         reads = record { tells = rw d; same = t.same };
         buffer = rw d (z ∙ cleared-whole buf ∙ ap (λ (n : ℕ). replicate n (pos 0)) l);
       }
+
+-- the promise permits one answer
+pub decompressed_same : {rule : List ℕ → Read RiceData} {was is is' : Cursor} {old buf buf' : List ℤ} (r q : Result (Unit {0}) Refusal)
+    → Decompressed rule was is old buf r → Decompressed rule was is' old buf' q → (r ≡ q) × (is.at ≡ is'.at) × (buf ≡ buf')
+decompressed_same r q s t =
+    let e = reads_same r q (λ v w k l e. refl) s.reads t.reads in
+    (e.0, e.1, s.buffer ∙ sym t.buffer)

@@ -13,8 +13,8 @@ use words::bits16_of;
 
 // ---- Bits out into lent bytes: whole bytes are stored, fewer than eight bits wait.
 
-// `at` bytes are out, of which those past the buffer's end are lost; the last `count` bits of `pending` wait. The bytes are not a field: every method would have to
-// promise that they are still the same reference.
+// `at` bytes are out, of which those past the buffer's end are lost; the last `count` bits of `pending` wait. The bytes are not a field: each method
+// would have to promise that they are still the same reference.
 #[derive(Clone, Copy)]
 pub struct Sink {
     pub at: usize,
@@ -22,6 +22,7 @@ pub struct Sink {
     pub count: u32,
 }
 
+// `one_at` of words gives it as i32: one shift each, so one over both widths would be no plainer.
 pub fn pow2(k: u32) -> u64
     requires { k < 64 }
     ensures { result ≡ 2 ^ k }

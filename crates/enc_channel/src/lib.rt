@@ -16,7 +16,7 @@ use lpc::lpc_residuals;
 use mix::mix_lane;
 use rules::{ChannelSettings, PackingSettings, StreamInfo};
 
-// The coefficients in the order of their use, the oldest sample's first; those past the order are zero.
+// The coefficients in the order of their use, the oldest sample's first; those past the order are zero: there is no heap.
 fn oldest_first(newest_first: [i16; 30], order: usize) -> [i16; 30]
     requires { order ≤ 30 }
     ensures { result ≡ reverse (take order newest_first) ++ replicate (30 - order) (pos 0) }

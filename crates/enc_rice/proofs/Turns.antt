@@ -12,7 +12,6 @@ use lib.Dec.{ltb}
 use lib.IntN.{ℤ, pos, negsuc}
 use borrow.Author.Tests.{lt-ltb, le-ltb}
 use Rattle.std.specs.Prelude.{Option, None, Some}
-use Rattle.rules.specs.Bits.{digits}
 use Rattle.rules.specs.Words.{folded, is_zero}
 use Rattle.rules.specs.Rice.{symbol_k, symbol_m, run_k, run_m, history_after, run_follows}
 use Rattle.rules.specs.Writer.{symbol_bits, zeros, rice_code}

@@ -1,7 +1,7 @@
 // The codes of Rice data, turn after turn, out into lent bytes.
 #![tactic(auto)]
 
-ghost use Rattle.std.specs.Prelude.{◌≡◌, ◌∷◌, ◌++◌, ◌≤◌, length, replicate};
+ghost use Rattle.std.specs.Prelude.{◌∷◌, ◌++◌, ◌≤◌, length, replicate};
 ghost use Rattle.rules.specs.Rice.{symbol_m};
 ghost use Rattle.rules.specs.Writer.{rest_bits, symbol_bits, rice_code};
 ghost use Rattle.enc_bits.specs.Sent.{Sent};

@@ -1,5 +1,5 @@
 -- Document 01, "Readings taken at the bench": the bold cases, worked out from the rules, as one table under one claim.
-use Rattle.std.specs.Prelude.{◌≡◌, refl, List, [], ◌∷◌, ◌++◌, map, reverse, ℕ, length, replicate, ℤ, pos, negsuc, Result, Ok, Err}
+use Rattle.std.specs.Prelude.{◌≡◌, refl, List, [], ◌∷◌, map, ℕ, replicate, ℤ, pos, negsuc, Result, Ok, Err}
 use Rattle.std.specs.Int.Count.{count_leading_zeros}
 use Rattle.rules.specs.declared.StreamInfo.{StreamInfo}
 use Rattle.rules.specs.declared.ChannelSettings.{ChannelSettings}
@@ -8,7 +8,7 @@ use Rattle.rules.specs.declared.Decoded.{Decoded}
 use Rattle.rules.specs.declared.Refused.{Refused}
 use Rattle.rules.specs.declared.Refusal.{Refusal}
 use Rattle.rules.specs.declared.Refusal.TheVariants.{Run}
-use Rattle.rules.specs.Answers.{got, bad, pick, bind, times, each}
+use Rattle.rules.specs.Answers.{bind, times, each}
 use Rattle.rules.specs.Bits.{digits, num, bits_of, bytes_of, padded, within, place_of}
 use Rattle.rules.specs.Words.{mod_z, signed, wrap, sign, unfolded, folded, log2}
 use Rattle.rules.specs.Stream.{i16_output, accepted}
@@ -16,10 +16,10 @@ use Rattle.rules.specs.Buffers.{laid, heads, tails, interleaved, every, up_to, p
 use Rattle.rules.specs.Symbol.{ones, rest, symbol}
 use Rattle.rules.specs.Rice.{symbol_k, run_k, run_m, history_after, run_at, after_value, sample, rice}
 use Rattle.rules.specs.Prediction.{weighed, guess, error_left, adapted, mean_of, window, forecast, next, coefs_after, predicted, summed, summed_from}
-use Rattle.rules.specs.Mix.{share, right_of, left_of, mid_of, on_pair, unmixed, mixed}
+use Rattle.rules.specs.Mix.{share, mid_of, on_pair, unmixed, mixed}
 use Rattle.rules.specs.Element.{params_ok, mix_ok, all_of, numbers, extended, with_extra, extra_bits, channel_of, assembled, raw_sound, sample_number, params, channel, planned, compressed, uncompressed, header, audio_element}
-use Rattle.rules.specs.Packet.{agrees, followed, skip_bytes, data_count, aligned, data_element, fill_element, sound_element, end_element, tagged, turn, onward, run, packet}
-use Rattle.rules.specs.Reader.{roomy, decoded, answer_of, written, output_after, scratch_after}
+use Rattle.rules.specs.Packet.{agrees, followed, sound_element, end_element, tagged, turn, onward, run, packet}
+use Rattle.rules.specs.Reader.{roomy, decoded, answer_of, written, output_after}
 use Rattle.rules.specs.Writer.{rest_bits, symbol_bits, zeros, rice_code, residual, residuals, channel_in_range, mix_in_range, in_range, passage_fits, joined, param_bits, count_bits, head_bits, channel_code, channel_codes, packet_bits, packet_bytes, packed, bytes_after}
 
 -- mono, frame 2, depth 16; pb 40, mb 10, kb 14

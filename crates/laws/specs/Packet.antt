@@ -1,5 +1,5 @@
 -- The packet: every element goes on by 3 bits at least, so the turns are enough; and what lies behind an answer's place has no say in it.
-use Prim.Native.Nat.{ℕ, zero, suc, ◌+◌, ◌-◌, ◌*◌, ◌/◌, ◌%◌, ◌≤◌, ◌<◌}
+use Prim.Native.Nat.{ℕ, zero, suc, ◌+◌, ◌*◌, ◌/◌, ◌≤◌, ◌<◌}
 use Rattle.std.proofs.Math.Path.{◌≡◌, refl, sym, ap}
 use Rattle.std.proofs.Common.{ap₂, ◌∙◌, mul-suc, leb-true, le-leb, length-append, take-take}
 use Rattle.std.proofs.Math.Bool.{Bool, true, false}
@@ -9,10 +9,9 @@ use Rattle.std.proofs.Math.Dec.{leb}
 use Rattle.std.proofs.Math.ListN.{length}
 use Rattle.std.proofs.Math.Seq.{take-append_seam}
 use Rattle.rules.specs.declared.StreamInfo.{StreamInfo}
-use Rattle.rules.specs.declared.Refusal.{Refusal}
 use Rattle.rules.specs.declared.Refusal.TheVariants.{Short}
 use Rattle.rules.specs.Answers.{Ans, got, bad, pick, bind, Read, ◌>>=◌}
-use Rattle.rules.specs.Bits.{num, within, field, to_edge}
+use Rattle.rules.specs.Bits.{num, within, to_edge}
 use Rattle.rules.specs.Element.{Sound, numbers, extra_bits}
 use Rattle.rules.specs.Packet.{Turn, audio, passed, end, tagged, turn, onward, run, packet}
 use Rattle.laws.specs.Walk.{Kept, tagged-kept, turns_kept}

@@ -1,6 +1,6 @@
 -- The packet that the writing rules name is read back by the reading rules: every sample, every history and all coefficients.
 use Prim.Native.Nat.{ℕ, zero, suc, ◌+◌, ◌-◌, ◌*◌, ◌/◌, ◌^◌, ◌≤◌, ◌<◌}
-use Rattle.std.specs.Prelude.{◌≡◌, Bool, ◌||◌, leb, eqb, drop, replicate, pos, Option, None, Some}
+use Rattle.std.specs.Prelude.{◌≡◌, Bool, ◌||◌, eqb, drop, replicate, pos, Option, None, Some}
 use Rattle.std.proofs.Math.Path.{refl, sym, ap, ap₂}
 use Rattle.std.proofs.Common.{◌∙◌, zero-mul, add-zero, arith, lit<}
 use Rattle.std.proofs.Math.Bool.{true, false}

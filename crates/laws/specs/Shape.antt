@@ -1,8 +1,8 @@
 -- What an audio element gives: as many channels as its tag says, each of its sample number, which is at most the frame length.
-use Prim.Native.Nat.{ℕ, zero, suc, ◌+◌, ◌*◌, ◌%◌, ◌^◌, ◌≤◌, ◌<◌}
-use Rattle.std.specs.Prelude.{◌≡◌, Bool, ◌&&◌, ◌||◌, leb, ltb, drop, ℤ, pos}
+use Prim.Native.Nat.{ℕ, zero, suc, ◌+◌, ◌*◌, ◌≤◌}
+use Rattle.std.specs.Prelude.{◌≡◌, Bool, ◌&&◌, ◌||◌, leb, ltb, drop, ℤ}
 use Rattle.std.proofs.Math.Path.{refl, ap}
-use Rattle.std.proofs.Common.{sym, ◌∙◌, le_refl, arith, leb-true}
+use Rattle.std.proofs.Common.{◌∙◌, le_refl, leb-true}
 use Rattle.std.proofs.Math.Bool.{true, false}
 use mathlib.Core.List.{List, [], ◌∷◌, map}
 use Rattle.std.proofs.Math.Dec.{eqb}
@@ -16,10 +16,10 @@ use Rattle.rules.specs.Words.{is_zero, signed, wrap, add32}
 use Rattle.rules.specs.Stream.{channel_bits}
 use Rattle.rules.specs.Buffers.{lanes, pairs}
 use Rattle.rules.specs.Symbol.{symbol}
-use Rattle.rules.specs.Rice.{SymbolReader, Step, RiceData, history_after, run_follows, more, sample, rice}
+use Rattle.rules.specs.Rice.{SymbolReader, RiceData, sample, rice}
 use Rattle.rules.specs.Prediction.{summed, summed_from}
 use Rattle.rules.specs.Mix.{left_of, right_of, on_pair, unmixed}
-use Rattle.rules.specs.Element.{Sound, Channel, Header, Params, Plan, params_ok, mix_ok, all_of, numbers, extended, with_extra, extra_bits, channel_of, assembled, raw_sound, sample_number, params, channel, planned, compressed, uncompressed, header, audio_element}
+use Rattle.rules.specs.Element.{Sound, Channel, Params, params_ok, mix_ok, all_of, numbers, extended, with_extra, extra_bits, channel_of, assembled, raw_sound, sample_number, params, channel, planned, compressed, uncompressed, header, audio_element}
 use Rattle.laws.specs.Words.{Every, none, one}
 use Rattle.laws.specs.Buffers.{pairs-length, lanes_count, lanes-length}
 use Rattle.laws.specs.Prediction.{predicted-length}

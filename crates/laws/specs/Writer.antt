@@ -27,7 +27,7 @@ use Rattle.rules.specs.Writer.{residuals, channel_in_range, mix_in_range, settin
 use Rattle.laws.specs.Bits.{length_digits, length-padded, Bin, bin_append, bin_digits}
 use Rattle.laws.specs.Words.{Every, none, one, AllIn}
 use Rattle.laws.specs.Buffers.{pairs-length, lanes_count, lanes-length, every-lane}
-use Rattle.laws.specs.Tests.{and_parts, chain_passed, AcceptedFields, accepted_fields}
+use Rattle.laws.specs.Tests.{and_parts, chain_passed, accepted_fields}
 use Rattle.laws.specs.Prediction.{residuals-length}
 use Rattle.laws.specs.Mix.{mixed_in}
 use Rattle.laws.specs.Length.{rice-length, bin_rice}

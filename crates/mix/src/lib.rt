@@ -17,6 +17,7 @@ use words::{
 };
 
 // ---- Unmixing and extra bits, in place: a channel's samples lie in scratch from place 0 on, a second channel's from `half` on.
+// Scratch, `half`, `n` and the channels go together, but not as a struct: `finish` hands them on unchanged, and its one caller has them apart.
 
 fn right_of(u: i32, v: i32, mix_bits: u32, mix_res: i32) -> i32
     requires { mix_bits < 32 }
@@ -140,7 +141,7 @@ fn mid_of(l: i32, r: i32, mix_bits: u32, mix_res: i32) -> i32
     wrapping_add_i32(r, share)
 }
 
-// u for channel 0, v for channel 1.
+// u for channel 0, v for channel 1. A channel stays a number here, since `copy_lane` uses it as an index.
 fn mix_pair(l: i32, r: i32, which: usize, mix_bits: u32, mix_res: i32) -> i32
     requires { mix_bits < 32 }
     ensures { result ≡ mixed_sample mix_bits mix_res which l r }

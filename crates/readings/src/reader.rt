@@ -43,7 +43,7 @@ fn read<S: Sample>(row: &[u8], packet: &[u8], out: &mut [S]) -> Result<Decoded, 
     )
 }
 
-// The passage, and sevens behind it. No passage that is read has more than four samples.
+// The passage, and sevens behind it. No passage that is read has more than four samples: four places beside four columns, which no `==` of arrays says plainer.
 pub fn are_samples(row: &[u8], answer: Result<Decoded, Refused>, out: &[i16; 4]) -> bool {
     let Ok(decoded) = answer else {
         return false;

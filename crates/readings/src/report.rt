@@ -45,7 +45,7 @@ impl Counts {
     }
 }
 
-// Document 01's number of an answer: 0 is accepted.
+// Document 01's number of an answer: 0 is accepted. A number, since the rows and what is printed have numbers.
 pub fn number_of<T: Drop>(answer: Result<T, Refusal>) -> u32 {
     match answer {
         Ok(_) => 0,

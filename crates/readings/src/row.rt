@@ -18,6 +18,7 @@ use std::io::Read;
 
 const TEXT: usize = 105;
 
+// Fixed places, as everywhere here: there is no heap.
 pub fn row_read(rt: &impl Input) -> [u8; 336] {
     let mut row = [0u8; 336];
     for i in 0..336 {
@@ -84,7 +85,7 @@ pub fn passage_of(row: &[u8]) -> [i16; 6] {
 
 const BELOW_ZERO: [i16; 10] = [0, -1, -2, -3, -4, -5, -6, -7, -8, -9];
 
-// A digit, and a sign right before it. A blank is 7, as what lies behind a passage is.
+// A digit, and a sign right before it. A blank is 7, as what lies behind a passage is. `parse` knows neither of the blanks.
 pub fn sample_at(row: &[u8], column: u8) -> i16 {
     let at = column as usize * 4;
     let digit = digit_at(row, at + 3) % 10;
@@ -137,7 +138,7 @@ fn packet_byte(row: &[u8], i: usize) -> u8 {
     digit_at(row, at) % 16 * 16 + digit_at(row, at + 1) % 16
 }
 
-// 0 to 9, or A to F. A blank and a sign stand for 0.
+// 0 to 9, or A to F. A blank and a sign stand for 0, which `to_digit` does not take.
 fn digit_at(row: &[u8], at: usize) -> u8 {
     let c = character_at(row, at);
     if c < 48 {

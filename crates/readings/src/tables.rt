@@ -6,7 +6,7 @@ use crate::writer::Look;
 use crate::{cookies, reader, writer};
 use std::io;
 
-// What a table's rows ask.
+// What a table's rows ask. An enum and no closures: main names the tables, and each kind is matched once.
 #[derive(Clone, Copy)]
 pub enum Kind {
     Cookie,

@@ -5,7 +5,7 @@ use crate::row::{gives, number_at, number_up_to, passage_of, settings_of, stream
 use rules::Refusal;
 use std::io;
 
-// What is looked at behind the number.
+// What is looked at behind the number: an enum for the same reason as `Kind`.
 #[derive(Clone, Copy)]
 pub enum Look {
     Nothing,

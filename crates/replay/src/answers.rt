@@ -5,6 +5,7 @@ use stream::Sample;
 
 #[derive(Clone, Copy, PartialEq)]
 pub struct Reply {
+    // A number, 0 for accepted, as it was recorded.
     pub number: u32,
     pub count: u64,
     pub sum: u32,

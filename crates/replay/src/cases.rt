@@ -21,7 +21,7 @@ pub fn replayed(rt: &impl Input) -> Case {
     }
 }
 
-// The packet follows its front. Each place holds 7 before the call, so those that should stay count too.
+// The packet follows its front, in an array: there is no heap. Each place holds 7 before the call, so those that should stay count too.
 fn answered(rt: &impl Input, length: u8, width: u8, s: StreamInfo) -> Reply {
     let mut bytes = [0u8; 256];
     let n = length as usize;

@@ -2,7 +2,7 @@
 use Rattle.std.specs.Prelude.{ℕ, zero, suc, ◌+◌, ◌-◌, ◌*◌, ◌/◌, ◌%◌, ◌^◌, List, [], ◌∷◌, ◌++◌, length, take, drop, replicate, leb}
 use Rattle.rules.specs.declared.Place.{Place}
 use Rattle.rules.specs.declared.Refusal.TheVariants.{Short}
-use Rattle.rules.specs.Answers.{Ans, got, bad, pick, Read}
+use Rattle.rules.specs.Answers.{got, bad, pick, Read}
 
 -- the bit's number of a place: a byte, and a bit in it
 abbrev pub bit_of : Place → ℕ

@@ -1,15 +1,15 @@
 -- Document 01, "Element": an audio element of one channel or two, after its tag.
-use Rattle.std.specs.Prelude.{ℕ, zero, suc, ◌+◌, ◌-◌, ◌*◌, ◌^◌, Bool, true, false, ◌&&◌, ◌||◌, not, List, [], ◌∷◌, map, reverse, length, take, drop, leb, ltb, eqb, ℤ, pos, ◌+ℤ◌, ◌*ℤ◌}
+use Rattle.std.specs.Prelude.{ℕ, zero, suc, ◌*◌, ◌^◌, Bool, true, ◌&&◌, ◌||◌, List, [], ◌∷◌, map, reverse, length, take, drop, leb, ltb, eqb, ℤ, pos, ◌+ℤ◌, ◌*ℤ◌}
 use Rattle.rules.specs.declared.StreamInfo.{StreamInfo}
 use Rattle.rules.specs.declared.Refusal.TheVariants.{Unused, Shift, Partial, WideChannel, NoChannelBits, Parameters, Mode, ShiftedRaw}
-use Rattle.rules.specs.Answers.{Ans, bind, pick, Read, ◌>>=◌, ◌>>◌, give, times, each, check}
+use Rattle.rules.specs.Answers.{pick, Read, ◌>>=◌, ◌>>◌, give, times, each, check}
 use Rattle.rules.specs.Bits.{num, within, field}
 use Rattle.rules.specs.Words.{signed, wrap, is_zero}
 use Rattle.rules.specs.Stream.{factor, channel_bits}
 use Rattle.rules.specs.Buffers.{lanes, pairs}
 use Rattle.rules.specs.Symbol.{symbol}
 use Rattle.rules.specs.Rice.{RiceData, rice}
-use Rattle.rules.specs.Prediction.{Adapted, predicted, summed}
+use Rattle.rules.specs.Prediction.{predicted, summed}
 use Rattle.rules.specs.Mix.{unmixed}
 
 -- the history and the coefficients of a channel after every sample

@@ -2,7 +2,7 @@
 use Rattle.std.specs.Prelude.{ℕ, zero, suc, ◌+◌, ◌*◌, ◌/◌, Bool, true, List, [], ◌++◌, length, leb, eqb, Option, None, Some}
 use Rattle.rules.specs.declared.StreamInfo.{StreamInfo}
 use Rattle.rules.specs.declared.Refusal.TheVariants.{Short, ManyChannels, Unsupported, Disagree, FewChannels, Fill}
-use Rattle.rules.specs.Answers.{Ans, bind, pick, Read, ◌>>=◌, ◌>>◌, give, refuse, check}
+use Rattle.rules.specs.Answers.{Ans, pick, Read, ◌>>=◌, ◌>>◌, give, refuse, check}
 use Rattle.rules.specs.Bits.{field, skip, skip_to_byte}
 use Rattle.rules.specs.Element.{Sound, audio_element}
 

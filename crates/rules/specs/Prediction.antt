@@ -1,6 +1,6 @@
 -- Document 01, "Prediction": samples from residuals, and the coefficients after every sample. Lists of samples and of
 -- coefficients are oldest first. Every sum, difference and product wraps at 32 bits, and coefficients at 16.
-use Rattle.std.specs.Prelude.{ℕ, suc, ◌+◌, ◌-◌, ◌^◌, Bool, true, false, List, [], ◌∷◌, ◌++◌, leb, eqb, length, get_or, drop, ℤ, pos, ◌+ℤ◌}
+use Rattle.std.specs.Prelude.{ℕ, ◌+◌, ◌-◌, ◌^◌, true, false, List, [], ◌∷◌, ◌++◌, leb, eqb, length, get_or, drop, ℤ, pos, ◌+ℤ◌}
 use Rattle.std.specs.Int.Signed.{le_z}
 use Rattle.rules.specs.Answers.{pick}
 use Rattle.rules.specs.Words.{wrap, add32, sub32, mul32, shift_right, sign, is_zero}

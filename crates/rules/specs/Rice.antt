@@ -1,9 +1,9 @@
 -- Document 01, "Rice data": residuals, and the history after every sample.
-use Rattle.std.specs.Prelude.{ℕ, zero, suc, ◌+◌, ◌-◌, ◌*◌, ◌/◌, ◌%◌, ◌^◌, min, Bool, ◌&&◌, List, [], ◌∷◌, leb, ltb, ℤ, pos}
+use Rattle.std.specs.Prelude.{ℕ, zero, suc, ◌+◌, ◌-◌, ◌*◌, ◌/◌, ◌%◌, ◌^◌, min, Bool, ◌&&◌, List, [], ◌∷◌, ltb, ℤ, pos}
 use Rattle.std.specs.Int.Bits.{bit_and}
 use Rattle.std.specs.Int.Count.{count_leading_zeros}
 use Rattle.rules.specs.declared.Refusal.TheVariants.{Run}
-use Rattle.rules.specs.Answers.{Ans, bind, pick, Read, ◌>>=◌, ◌>>◌, give, check}
+use Rattle.rules.specs.Answers.{pick, Read, ◌>>=◌, ◌>>◌, give, check}
 use Rattle.rules.specs.Words.{log2, unfolded}
 
 -- symbol k = min(log2((h >> 9) + 3), kb)

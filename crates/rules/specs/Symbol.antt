@@ -1,6 +1,6 @@
 -- Document 01, "Symbol".
 use Rattle.std.specs.Prelude.{ℕ, zero, suc, ◌+◌, ◌-◌, ◌*◌, List, eqb}
-use Rattle.rules.specs.Answers.{Ans, bind, pick, Read, ◌>>=◌, give}
+use Rattle.rules.specs.Answers.{pick, Read, ◌>>=◌, give}
 use Rattle.rules.specs.Bits.{field}
 
 module _ (bits : List ℕ) where

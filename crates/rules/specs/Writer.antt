@@ -1,5 +1,5 @@
 -- Document 01, "The added writer": its ranges, the one packet that the rules name, its refusals, and what the buffers become.
-use Rattle.std.specs.Prelude.{ℕ, zero, suc, ◌+◌, ◌-◌, ◌*◌, ◌/◌, ◌%◌, ◌^◌, min, Bool, true, false, ◌&&◌, ◌||◌, List, [], ◌∷◌, ◌++◌, map, reverse, length, take, replicate, leb, ltb, eqb, ℤ, pos, negsuc, Result, Ok, Err}
+use Rattle.std.specs.Prelude.{ℕ, zero, suc, ◌+◌, ◌-◌, ◌*◌, ◌/◌, ◌%◌, ◌^◌, min, Bool, ◌&&◌, ◌||◌, List, [], ◌∷◌, ◌++◌, map, reverse, length, take, replicate, leb, ltb, eqb, ℤ, pos, Result, Ok, Err}
 use Rattle.rules.specs.declared.StreamInfo.{StreamInfo}
 use Rattle.rules.specs.declared.ChannelSettings.{ChannelSettings}
 use Rattle.rules.specs.declared.PackingSettings.{PackingSettings}

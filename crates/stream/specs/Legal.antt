@@ -1,5 +1,5 @@
 -- What the parts of the reader need of an accepted stream.
-use Rattle.std.specs.Prelude.{ℕ, ◌≤◌}
+use Rattle.std.specs.Prelude.{◌≤◌}
 use Rattle.rules.specs.declared.StreamInfo.{StreamInfo}
 
 pub record Legal (s : StreamInfo) : Type 0 where

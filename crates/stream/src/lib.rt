@@ -89,7 +89,7 @@ pub fn accepts<S: Sample>(s: StreamInfo) -> bool
     accepted(s, S::takes(s.bit_depth))
 }
 
-// ---- The cookie and the getters of a stream: lib.rs.
+// ---- The cookie and the getters of a stream: lib.rs. Functions, since StreamInfo is a type of `rules`, and an `impl` for a type of another crate is refused.
 
 // `frma` and `alac`, the names of the atoms that older files have before the fields.
 const FRMA: u32 = 0x66726D61;
@@ -173,6 +173,7 @@ fn info_of(cookie: &[u8]) -> StreamInfo
     }
 }
 
+// Two names for one call each: one over both widths would need a trait of its own.
 fn read_be_u16(buf: &[u8]) -> u16
     requires { length buf.now ≡ 2 }
     ensures { result ≡ big_endian buf.now }

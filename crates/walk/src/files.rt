@@ -19,6 +19,7 @@ fn load<R: Alloc + Env + Eprint + Files>(
 ) -> Result<usize, Stopped>
     ensures { IfOk result (λ n. IsPrefixLen n places.new) }
 {
+    // The longest name that a system takes, since memory is fixed.
     let mut path = [0u8; 4096];
     let Ok(n) = rt.arg(argument, &mut path) else {
         return Err(say::stop(rt, 0, "the name of a file: File name too long"));
@@ -73,7 +74,7 @@ pub fn load_numbers<R: Alloc + Env + Eprint + Files>(
 ) -> Result<usize, Stopped>
     ensures { IfOk result (λ n. Few n numbers.old numbers.new) }
 {
-    let mut bytes = room::bytes();
+    let mut bytes = [0u8; room::BYTES];
     let n = load(rt, 3, &mut bytes)?;
     match text::numbers_of(&bytes[..n], numbers) {
         Ok(count) => Ok(count),

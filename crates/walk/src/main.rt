@@ -63,6 +63,7 @@ fn read_command(rt: &impl Env) -> Option<Command> {
     command_of(&word[..n], count_words(rt))
 }
 
+// The one place where the three programs part, so an enum that is matched, and no closures.
 fn main(rt: HostRuntime) {
     let _ = match read_command(&rt) {
         Some(Command::Pack) => packing::pack(&rt),

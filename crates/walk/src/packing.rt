@@ -24,7 +24,7 @@ pub fn pack<R: Alloc + Env + Eprint + Files + Input + Print>(rt: &R) -> Result<(
 // The writer judges the settings on an empty passage, so that they are refused whatever the input. Its packet fits 256 bytes.
 fn judge(rt: &impl Eprint, s: StreamInfo, t: PackingSettings) -> Result<(), Stopped> {
     let passage = [0i16; 1];
-    let mut scratch = room::scratch();
+    let mut scratch = [0i32; room::SCRATCH];
     let mut places = [0u8; 256];
     match enc::encode_packet_i16(s, t, &passage[..0], &mut places, &mut scratch) {
         Ok(_) => Ok(()),
@@ -57,7 +57,7 @@ fn pack_next(
     requires { Small s }
 {
     let mut input = rt.reader();
-    let mut bytes = room::bytes();
+    let mut bytes = [0u8; room::BYTES];
     let channels = s.num_channels as usize;
     let most = 2 * (s.frame_length as usize * channels);
     let got = read_full(&mut input, &mut bytes[..most]);
@@ -98,7 +98,7 @@ fn packed(
 ) -> Result<Counts, Stopped>
     requires { Pairs 65536 (length bytes.now) }
 {
-    let mut samples = room::samples();
+    let mut samples = [0i16; room::SAMPLES];
     let n = bytes.len() / 2;
     wire::samples_of(bytes, &mut samples[..n]);
     written(rt, s, t, &samples[..n], so_far)
@@ -111,8 +111,8 @@ fn written(
     passage: &[i16],
     so_far: Counts,
 ) -> Result<Counts, Stopped> {
-    let mut scratch = room::scratch();
-    let mut places = room::packet();
+    let mut scratch = [0i32; room::SCRATCH];
+    let mut places = [0u8; room::PACKET];
     match enc::encode_packet_i16(s, t, passage, &mut places, &mut scratch) {
         Ok(n) => sent(rt, put_packet(rt, &places[..n]), so_far, so_far.one_more()),
         Err(refusal) => Err(refuse(rt, so_far.packets, refusal)),

@@ -58,7 +58,7 @@ fn read_next(
 ) -> Result<Counts, Stopped>
     requires { Small s }
 {
-    let mut places = room::packet();
+    let mut places = [0u8; room::PACKET];
     match next_packet(rt, &mut places, so_far)? {
         Some(n) => read_one(rt, &places[..n], s, output, so_far),
         None => Err(ended(rt, so_far)),
@@ -75,8 +75,8 @@ fn read_one(
 ) -> Result<Counts, Stopped>
     requires { Small s }
 {
-    let mut samples = room::samples();
-    let mut scratch = room::scratch();
+    let mut samples = [0i16; room::SAMPLES];
+    let mut scratch = [0i32; room::SCRATCH];
     let frame = s.frame_length as usize;
     let places = frame * s.num_channels as usize;
     let halves = 2 * frame;
@@ -119,7 +119,7 @@ fn put(rt: &impl Print, output: Output, refusal: Option<Refusal>, samples: &[i16
 fn put_samples(rt: &impl Print, samples: &[i16]) -> io::Result<()>
     requires { 2 * length samples.now ≤ 65536 }
 {
-    let mut bytes = room::bytes();
+    let mut bytes = [0u8; room::BYTES];
     let n = 2 * samples.len();
     wire::bytes_of(samples, &mut bytes[..n]);
     rt.write_all(&bytes[..n])

@@ -1,15 +1,15 @@
 -- The loops over samples and bytes.
-use Prim.Native.Nat.{ℕ, zero, suc, ◌+◌, ◌*◌, ◌/◌, ◌%◌, ◌^◌, ◌≤◌, ◌<◌}
+use Prim.Native.Nat.{ℕ, suc, ◌+◌, ◌*◌, ◌/◌, ◌%◌, ◌^◌, ◌≤◌, ◌<◌}
 use mathlib.Core.Path.{◌≡◌, refl, sym, ap, ◌∙◌}
-use mathlib.Core.List.{List, [], ◌∷◌, ◌++◌, append-nil, append_assoc}
+use mathlib.Core.List.{List, ◌∷◌, ◌++◌, append-nil, append_assoc}
 use native.Mathlib.Numerals.{add-one}
 use native.Mathlib.Omega.{arith}
 use lib.ListN.{length, get_or, take, drop, set, length-set, drop_of_length-le}
 use lib.Seq.{drop-cons, take-suc-set, take_all}
 use lib.IntN.{ℤ, pos}
 use mir.Syntax.{w8, w16}
-use mir.Val.{Fits, to_z, of_z}
-use Rattle.words.proofs.Laws.{number_is, bits_are}
+use mir.Val.{Fits, to_z}
+use Rattle.words.proofs.Laws.{number_is}
 use Rattle.rules.specs.Words.{mod_z, signed}
 use Rattle.laws.specs.Words.{mod_z_lt}
 use Rattle.wire.specs.Raw.{samples_of, bytes_of}

@@ -2,14 +2,14 @@
 use Prim.Native.Nat.{ℕ, zero, suc, ◌+◌, ◌-◌, ◌*◌, ◌/◌, ◌%◌, ◌^◌, ◌≤◌, ◌<◌, zero-le, suc-le-suc}
 use mathlib.Core.Path.{◌≡◌, refl, sym, ap, ◌∙◌, subst}
 use mathlib.Core.Bool.{Bool, true, false, false≢true}
-use native.Mathlib.Nat.{one-mul, zero-add, add-zero, add-mul, suc-mul, mul_comm, mul_assoc, mul-le-mul, mul-lt-mul_of_pos_right, mul-le-mul_right, mul-div_cancel, mul-mod_left, mod-eq_of_lt, lt_irrefl, not-suc-le-zero, suc-ne-zero, le_of_suc-le-suc, le_trans, lt_of_le_of_lt}
+use native.Mathlib.Nat.{one-mul, zero-add, add-zero, add-mul, suc-mul, mul_comm, mul_assoc, mul-le-mul, mul-lt-mul_of_pos_right, mul-le-mul_right, mul-div_cancel, mul-mod_left, mod-eq_of_lt, not-suc-le-zero, suc-ne-zero, le_of_suc-le-suc, le_trans, lt_of_le_of_lt}
 use native.Mathlib.Omega.{arith}
 use borrow.Author.Tests.{ltb-true, ltb-false, lt-ltb, le-ltb, leb-false}
 use lib.Dec.{T, ltb, leb, lit<}
 use lib.Arith.{digits_div, mod-mul}
 use lib.Pow.{pow-add, pow_pos, pow-lt, pow_mono}
 use lib.IntN.{ℤ, pos, negsuc, nat_abs, ◌+ℤ◌, ◌-ℤ◌, ◌*ℤ◌}
-use lib.Signed.{shr_z, mag, mag_shr, nat_abs-le, lt_z, le_z}
+use lib.Signed.{shr_z, mag, mag_shr, nat_abs-le, le_z}
 use mir.Syntax.{Width, w16, w32, w64}
 use mir.Val.{bits, hbits, SFits, to_z, of_z, sel}
 use mir.ValLaws.{pow-bits, half_full, to_z-of_z, to_z-Fits, Fits-wrap, to_z_pos}

@@ -4,7 +4,7 @@
 ghost use Rattle.std.specs.Prelude.{◌≡◌, ◌≤◌, ◌<◌, ◌^◌, pos, ◌+ℤ◌};
 ghost use Rattle.rules.specs.Words.{mod_z, signed, wrap, add32, sub32, mul32, shift_right, shift_left, sign, unfolded, folded};
 
-// The low 32 bits of `s`, as a number. Not generic with `low_i16`, and no `wrapping_add` of std: the edits word_of_31_bits and three more slip in the widths here.
+// The low 32 bits of `s`, as a number. Not generic with `low_i16`, and no `wrapping_add` of std: word_of_31_bits and three more edits slip in the widths here.
 fn low_i32(s: i64) -> i32
     ensures { result ≡ wrap 32 s }
 {
@@ -52,6 +52,8 @@ pub fn add_to_i16(c: i16, t: i32) -> i16
     low_i16(c as i64 + t as i64)
 }
 
+// `signum`, `one_at`, `number_of`, `bits_of`, `coef_of` and `bits16_of` are one call each. They stay, one for each width: the rules' word for the
+// call is promised here, once, and one over both widths would need a trait of its own.
 pub fn signum(x: i32) -> i32
     ensures { result ≡ sign x }
 {

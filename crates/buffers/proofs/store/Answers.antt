@@ -2,7 +2,7 @@
 use native.Mathlib.Omega.{arith}
 use Rattle.std.proofs.Common.{w32}
 use Rattle.std.proofs.lemmas.Int.{to_z-of_z}
-use Rattle.buffers.proofs.Laws.{storing_start, storing_in, storing_next, storing_done}
+use Rattle.buffers.proofs.Laws.{storing_start, storing_next, storing_done}
 use Rattle.buffers.proofs.store.Goals as goal
 
 pub loop-i-init : goal.loop-i-init

@@ -1,5 +1,4 @@
 -- The coefficients passed, and what the rule makes of the rest from here, are what it makes of all.
-use Prim.Native.Nat.{◌-◌}
 use mathlib.Core.Path.{◌≡◌}
 use mathlib.Core.List.{◌++◌}
 use lib.ListN.{length, take, drop}

@@ -1,5 +1,5 @@
 -- The samples so far, and what the rules make of the rest from here, are the whole.
-use Prim.Native.Nat.{◌≤◌, ◌-◌}
+use Prim.Native.Nat.{◌≤◌}
 use mathlib.Core.Path.{◌≡◌}
 use lib.ListN.{length}
 use Rattle.lpc.proofs.Steps.{Going}

@@ -1,5 +1,4 @@
 -- What is left of the sum, from where the loop stands, is the whole.
-use Prim.Native.Nat.{◌-◌}
 use mathlib.Core.Path.{◌≡◌}
 use lib.ListN.{drop}
 use lib.IntN.{pos}

@@ -1,6 +1,5 @@
 -- Three fields, then the coefficients.
 use borrow.Author.Rules.{part_to_end}
-use borrow.Author.Rules.{rules}
 use Rattle.settings.specs.Flat.{channel_of}
 use Rattle.settings.proofs.channel_of.Goals as goal
 

@@ -5,7 +5,6 @@ use native.Mathlib.Omega.{arith}
 use lib.ListN.{length}
 use borrow.Author.Tests.{eq-eqb, ne_eqb}
 use borrow.Author.Rules.{part_to_end}
-use borrow.Author.Rules.{rules}
 use Rattle.settings.specs.Flat.{settings_of}
 use Rattle.settings.specs.Laws.{wrong_length}
 use Rattle.settings.proofs.settings_of.Goals as goal

@@ -1,6 +1,5 @@
 -- Two fields, then the first channel.
 use borrow.Author.Rules.{part_to_end}
-use borrow.Author.Rules.{rules}
 use Rattle.settings.specs.Flat.{with_second}
 use Rattle.settings.proofs.with_second.Goals as goal
 

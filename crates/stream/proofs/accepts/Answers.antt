@@ -1,5 +1,4 @@
 -- No place of the output has a say.
-use mathlib.Core.Path.{refl, ◌∙◌}
 use lib.IntN.{pos}
 use Rattle.rules.specs.Stream.{accepted}
 use Rattle.stream.proofs.accepts.Goals as goal

@@ -2,7 +2,6 @@
 use mathlib.Core.Path.{◌≡◌, ◌∙◌, ap}
 use native.Mathlib.Omega.{arith}
 use lib.ListN.{length}
-use borrow.Author.Rules.{rules}
 use Rattle.rules.specs.Cookie.{from_cookie, past_atom, past_atoms, frma, alac}
 use Rattle.stream.proofs.Cookie.{from24_short, from24_long, past_atom_length}
 use Rattle.stream.proofs.from_cookie.Goals as goal

@@ -1,6 +1,5 @@
 -- Each field is its bytes as a number; one byte is that number itself.
 use native.Mathlib.Omega.{arith}
-use borrow.Author.Rules.{rules}
 use Rattle.stream.proofs.Cookie.{byte_at}
 use Rattle.stream.proofs.info_of.Goals as goal
 

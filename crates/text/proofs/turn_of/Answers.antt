@@ -1,5 +1,4 @@
 -- By where the reader stands.
-use borrow.Author.Rules.{rules}
 use Rattle.text.specs.Text.{turn_of}
 use Rattle.text.proofs.turn_of.Goals as goal
 

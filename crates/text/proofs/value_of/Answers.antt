@@ -1,6 +1,5 @@
 -- A number has ended only where there were digits.
 use mathlib.Core.Path.{◌∙◌}
-use borrow.Author.Rules.{rules}
 use Rattle.words.proofs.Laws.{held16}
 use Rattle.text.specs.Text.{value_of}
 use Rattle.text.proofs.value_of.Goals as goal

@@ -1,7 +1,7 @@
 -- The shift to the left by 48 and back leaves the low 16 bits.
 use mathlib.Core.Path.{refl}
 use mir.Syntax.{w16, w64}
-use Rattle.words.proofs.Laws.{shift_cast_fits, shift_cast}
+use Rattle.words.proofs.Laws.{shift_cast}
 use Rattle.words.proofs.low_i16.Goals as goal
 
 pub returns : goal.returns

@@ -1,5 +1,5 @@
 -- As the library has it.
-use mathlib.Core.Path.{◌∙◌, sym}
+use mathlib.Core.Path.{◌∙◌}
 use native.Mathlib.Nat.{mod-eq_of_lt}
 use mir.Syntax.{w32}
 use Rattle.rules.specs.Words.{wrap, mod_z}

@@ -1,6 +1,5 @@
 -- A power of two below the sign's bit.
 use mir.Syntax.{w32}
-use borrow.Author.Rules.{rules}
 use Rattle.words.proofs.Laws.{one_bit}
 use Rattle.words.proofs.one_at.Goals as goal
 

@@ -1,13 +1,8 @@
 -- A product by a power of two, and `low_i32` wraps it.
-use Prim.Native.Nat.{◌*◌, ◌%◌, ◌^◌}
 use native.Mathlib.Omega.{arith}
-use mathlib.Core.Path.{◌≡◌}
-use lib.IntN.{pos}
 use mir.Syntax.{w32, w64}
-use mir.Val.{to_z}
 use mir.Facts.{to_z-of_z}
-use Rattle.words.proofs.Laws.{wide, wide_fits, wrapped, one_bit, shifted_fits}
-use borrow.Author.Rules.{rules}
+use Rattle.words.proofs.Laws.{wide, wrapped, one_bit, shifted_fits}
 use Rattle.words.proofs.shift_up.Goals as goal
 
 pub overflow_mul-x : goal.overflow_mul-x

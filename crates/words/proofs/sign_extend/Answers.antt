@@ -1,5 +1,4 @@
 -- The shift to the left by 32 - bits and back leaves the low bits.
-use borrow.Author.Rules.{rules}
 use native.Mathlib.Omega.{arith}
 use Prim.Native.Nat.{◌-◌}
 use mir.Syntax.{w32}

@@ -1,5 +1,4 @@
 -- By whether v is even. Half of a word fits a signed word.
-use borrow.Author.Rules.{rules}
 use borrow.Author.Tests.{eq-eqb, ne_eqb}
 use native.Mathlib.Omega.{arith}
 use Prim.Native.Nat.{ℕ, ◌/◌, ◌<◌, ◌^◌}

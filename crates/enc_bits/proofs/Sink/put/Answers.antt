@@ -1,7 +1,5 @@
 -- `put` meets its contract.
-use mathlib.Core.Path.{refl}
 use native.Mathlib.Omega.{arith}
-use borrow.Author.Rules.{rules}
 use Rattle.enc_bits.proofs.Sent.{draining_next, draining_done, all_lt}
 use Rattle.enc_bits.proofs.Sink.put.Goals as goal
 

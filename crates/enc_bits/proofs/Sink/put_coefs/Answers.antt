@@ -1,7 +1,6 @@
 -- What went out and the coefficients that are left are all of them.
 use Prim.Native.Nat.{◌^◌}
 use mathlib.Core.Path.{ap, ◌∙◌}
-use native.Mathlib.Omega.{arith}
 use Rattle.rules.specs.Words.{mod_z}
 use Rattle.words.proofs.Laws.{held16}
 use Rattle.enc_bits.proofs.Around.{putting_takes, putting_next, putting_done}
