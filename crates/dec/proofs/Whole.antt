@@ -108,7 +108,7 @@ module _ {A : Type 0} (w : Width A) (s : StreamInfo) (start : Cursor) (was : Lis
     abbrev after : ℕ → Option ℕ → ℕ → Ans Sound
     after = run bits s (g.most - 1)
 
-    reading_same : length out ≡ length was
+    pub reading_same : length out ≡ length was
     reading_same = ap length g.output ∙ stored-length s.num_channels 0 (kept w s g.heard) was
 
     pub reading_readable : Readable s was scr₀ → Readable s out scr

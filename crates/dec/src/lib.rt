@@ -73,6 +73,7 @@ fn read_all<S: Sample>(
     loop {
         let element = next_element(bits, s, st, scratch)?;
         match element {
+            Element::End(n) => return Ok(n as usize * s.num_channels as usize),
             Element::Audio { channels, samples } => {
                 lay(scratch, out, s, st.channels, channels, samples);
                 st = State {
@@ -81,7 +82,6 @@ fn read_all<S: Sample>(
                 };
             }
             Element::Passed => {}
-            Element::End(n) => return Ok(n as usize * s.num_channels as usize),
         }
     }
 }

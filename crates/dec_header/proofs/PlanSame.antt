@@ -17,7 +17,7 @@ use Rattle.dec_header.specs.declared.plan.Parameters.{Parameters}
 use Rattle.dec_header.specs.declared.plan.Plan.{Plan}
 use Rattle.dec_header.specs.Plan.{params_of, Settled, OneOrTwo, channels_of, plan_of, AllowedChannel, AllowedPlan}
 use Rattle.bitcursor.proofs.Laws.{reads_same}
-use Rattle.dec_header.proofs.PlanSteps.{settled_order}
+pub use Rattle.dec_header.proofs.PlanSteps.{settled_order}
 
 -- the code's parameters and plan, of those of the rules
 params_from : rule.Params → Parameters

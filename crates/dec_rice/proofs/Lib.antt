@@ -1,3 +1,3 @@
 mod Symbols
 mod Loop
-mod Laws
+pub mod Laws

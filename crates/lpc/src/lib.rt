@@ -27,7 +27,7 @@ fn weigh(xs: &[i32], mean: i32, lpc_coefs: &[i16]) -> i32
     let mut predicted = 0;
     for j in 0..lpc_coefs.len() {
         let difference = words::wrapping_sub_i32(xs[j], mean);
-        let product = words::wrapping_mul_i32(difference, lpc_coefs[j] as i32);
+        let product = words::wrapping_mul_i16(difference, lpc_coefs[j]);
         predicted = words::wrapping_add_i32(predicted, product);
     }
     predicted

@@ -45,6 +45,13 @@ pub fn wrapping_mul_i32(x: i32, y: i32) -> i32
     low_i32(x as i64 * y as i64)
 }
 
+// The product by a coefficient.
+pub fn wrapping_mul_i16(x: i32, c: i16) -> i32
+    ensures { result ≡ mul32 x c }
+{
+    low_i32(x as i64 * c as i64)
+}
+
 // What a coefficient gains.
 pub fn add_to_i16(c: i16, t: i32) -> i16
     ensures { result ≡ wrap 16 (c +ℤ t) }

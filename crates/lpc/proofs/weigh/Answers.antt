@@ -3,9 +3,9 @@ use mathlib.Core.Path.{◌≡◌, sym, ap, ◌∙◌}
 use native.Mathlib.Omega.{arith}
 use lib.ListN.{get_or}
 use lib.IntN.{ℤ, pos}
-use mir.Syntax.{w16, w32}
+use mir.Syntax.{w32}
 use mir.Val.{to_z, of_z}
-use Rattle.words.proofs.Laws.{held32, wide}
+use Rattle.words.proofs.Laws.{held32, held16}
 use Rattle.rules.specs.Words.{add32, sub32, mul32}
 use Rattle.rules.specs.Prediction.{weighed}
 use Rattle.lpc.proofs.Steps.{weighed_on, weighed_end}
@@ -21,8 +21,8 @@ loop-j-preserved c =
     let sum_is : to_z w32 (of_z w32 c.wrapping_add_i32-predicted.result) ≡ add32 sum (mul32 (sub32 (get_or xs j (pos 0)) mean) (get_or cs j (pos 0))) =
     cc (
       held32 c.wrapping_add_i32-predicted.result c.wrapping_add_i32-predicted.type_inv,
-      held32 c.wrapping_mul_i32-product.result c.wrapping_mul_i32-product.type_inv,
-      wide w16 w32 tt (get_or cs j (pos 0)) (record { sfits = c.wrapping_mul_i32-arg-1.given }),
+      held32 c.wrapping_mul_i16-product.result c.wrapping_mul_i16-product.type_inv,
+      held16 (get_or cs j (pos 0)) c.wrapping_mul_i16-arg-1.given,
       held32 c.wrapping_sub_i32-difference.result c.wrapping_sub_i32-difference.type_inv,
       held32 (get_or xs j (pos 0)) c.wrapping_sub_i32-arg-1.given,
     ) in
